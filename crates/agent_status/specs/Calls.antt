@@ -1,4 +1,4 @@
--- The calls that stand.
+-- The live calls.
 use Rattle.std.specs.Prelude.{ℕ, List, [], find, ◌==◌, Option, Some, None, unwrap_or}
 use Rattle.call_core.specs.declared.stage.Phase.{Phase}
 use Rattle.call_core.specs.declared.stage.Phase.TheVariants as phases
@@ -13,7 +13,7 @@ use Rattle.status.specs.declared.call.CallTraffic.{CallTraffic}
 use Rattle.status.specs.declared.call.MediumStatus.{MediumStatus}
 use Rattle.agent_status.specs.Sessions.{media_of}
 
--- how far a call of a phase is; one that is gone is ending
+-- how far a call in a phase is; one that is gone is ending
 abbrev pub call_phase : Option Phase → CallPhase
 call_phase None = Ending
 call_phase (Some phases.Asked) = Calling
@@ -36,7 +36,7 @@ traffic_of traffic number = find (λ t. t.number == number) traffic
 abbrev pub user_text : Option (List ℕ) → List ℕ
 user_text user = unwrap_or user []
 
--- the caller, and whom it calls, as the dialog with the caller has them: the server is the callee there (RFC 3261
+-- the caller, and the callee, as the dialog with the caller has them: the server is the callee there (RFC 3261
 -- section 12.1.1)
 abbrev pub users_of : Option Dialog → List ℕ × List ℕ
 users_of None = ([], [])

@@ -1,4 +1,4 @@
--- The media of a session: what RFC 3264 sections 5 and 6 have its offer and its answer mean.
+-- The media of a session: what its offer and answer mean by RFC 3264 sections 5 and 6.
 use Rattle.std.specs.Prelude.{ℕ, Bool, true, false, not, ◌&&◌, ◌==◌, List, [], ◌∷◌, map, zip, Option, Some, None, is_some, unwrap_or, if◌then◌else◌}
 use Rattle.sdp.specs.declared.description.Description.{Description}
 use Rattle.sdp.specs.declared.description.Media.{Media}
@@ -12,12 +12,12 @@ use Rattle.status.specs.declared.call.Direction.{Direction}
 use Rattle.status.specs.declared.call.Direction.TheVariants.{Both, FromCaller, FromCallee, Neither}
 use Rattle.status.specs.declared.call.MediumStatus.{MediumStatus}
 
--- media go from whoever described m in d to whoever described n in e: both have a port for it, the one sends, the other
--- receives, and it named where
+-- media go from the side that described m in d to the side that described n in e: both have a port for it, the first
+-- sends, the second receives, and it named where
 abbrev pub is_sent : Description → Media → Description → Media → Bool
 is_sent d m e n = not (m.port == 0) && (not (n.port == 0) && (sends (way_of d m) && (receives (way_of e n) && is_some (destination e n))))
 
--- the encoding of a format, else the format itself (RFC 4566 section 6)
+-- the encoding of a format, or otherwise the format itself (RFC 4566 section 6)
 abbrev pub encoding : Media → List ℕ → List ℕ
 encoding m format = unwrap_or (rtpmap_of m format) format
 

@@ -8,15 +8,15 @@ use Rattle.sip_uri.specs.Writing.{uri_text}
 use Rattle.status.specs.declared.user.BindingStatus.{BindingStatus}
 use Rattle.status.specs.declared.user.UserStatus.{UserStatus}
 
--- the seconds that are left of it, rounded up
+-- the remaining seconds, rounded up
 abbrev pub binding_status : ℕ → Binding → BindingStatus
 binding_status now binding = record { contact = uri_text binding.uri; seconds_left = div_ceil (binding.expires_at - now) 1000 }
 
--- that of a binding, unless it is over
+-- that of a binding, unless it has expired
 abbrev pub present_status : ℕ → Binding → List BindingStatus
 present_status now binding = if nat_lt now binding.expires_at then binding_status now binding ∷ [] else []
 
--- those of the bindings that are not over, in order
+-- those of the bindings that have not expired, in order
 abbrev pub bindings_at : ℕ → List Binding → List BindingStatus
 bindings_at now bindings = flat_map (present_status now) bindings
 

@@ -1,4 +1,4 @@
-//! What a server is at a moment, by what its agent knows.
+//! The state of a server at a moment, from what its agent knows.
 #![tactic(auto)]
 
 mod kinds;

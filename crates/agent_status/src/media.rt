@@ -10,7 +10,8 @@ use status::{Direction, MediumStatus};
 use std::alloc::{AllocError, Global};
 use text::Text;
 
-/// Whether media go from whoever described a medium so to whoever described it in the other way.
+/// Whether media go from the side that describes the medium in the first way to the side that describes it in the
+/// other.
 fn is_sent(
     own: &Description<'_>,
     medium: &Media<'_>,
@@ -64,7 +65,7 @@ fn direction_by(offerer: End, from_offerer: bool, from_answerer: bool) -> Direct
     }
 }
 
-/// A medium of an offer that was answered so.
+/// A medium of an offer with this answer.
 fn medium_status(
     alloc: Global,
     offerer: End,

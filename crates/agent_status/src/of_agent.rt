@@ -1,4 +1,4 @@
-//! What a server is at a moment.
+//! The state of a server at a moment.
 
 ghost use Rattle.std.specs.Prelude.{◌≡◌, map, IfOk};
 ghost use Rattle.port_pool.specs.PairCounts.{pair_counts};
@@ -14,9 +14,9 @@ use agent::Agent;
 use status::{CallTraffic, DatagramCounts, Entries, Status};
 use std::alloc::{AllocError, Global};
 
-/// What the server of this agent is at a moment, in milliseconds: its users and calls are those of the agent's
-/// registrar and calls, and its pairs those of the pool. What was counted of the calls, and of media in all, is handed
-/// in.
+/// The state of this agent's server at a moment, in milliseconds. Its users and calls are those of the agent's
+/// registrar and calls, and its pairs those of the pool. What was counted of the calls, and of media in all, is
+/// passed in.
 pub fn status_of(
     alloc: Global,
     agent: &Agent,

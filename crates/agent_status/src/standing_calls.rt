@@ -1,4 +1,4 @@
-//! The calls that stand.
+//! The live calls.
 
 ghost use Rattle.std.specs.Prelude.{◌≡◌, map, IfOk};
 ghost use Rattle.std.specs.Option.{option_copied};
@@ -13,7 +13,7 @@ use status::{CallPhase, CallStatus, CallTraffic, Entries, MediumStatus};
 use std::alloc::{AllocError, Global};
 use text::Text;
 
-/// How far a call of a phase is.
+/// How far a call in a phase is.
 fn call_phase(phase: Option<Phase>) -> CallPhase
     ensures { result ≡ call_phase phase }
 {
@@ -42,7 +42,7 @@ fn traffic_of(traffic: &[CallTraffic], number: u64) -> Option<&CallTraffic>
     traffic.iter().find(|call| call.number == number)
 }
 
-/// The user of a URI; empty where it has none.
+/// The user of a URI; empty if it has none.
 fn user_text(alloc: Global, user: Option<&Text<'static>>) -> Result<Text<'static>, AllocError>
     ensures { IfOk result (λ text. text ≡ user_text (option_copied user.entry)) }
 {

@@ -18,7 +18,7 @@ fn binding_status(alloc: Global, binding: &Binding, now: u64) -> Result<BindingS
     })
 }
 
-/// One more, unless it is over.
+/// One more, unless it has expired.
 fn push_binding(
     alloc: Global,
     statuses: &mut Vec<BindingStatus>,
@@ -33,7 +33,7 @@ fn push_binding(
     Ok(())
 }
 
-/// The bindings that are not over.
+/// The bindings that have not expired.
 fn bindings_at(
     alloc: Global,
     bindings: &[Binding],

@@ -1,4 +1,4 @@
-//! A value on the heap that contracts see as the value itself: what holds it stays small, and is moved and cleared at
+//! A value on the heap that contracts see as the value itself: its owner stays small, and is moved and cleared at
 //! little cost.
 #![tactic(auto)]
 
@@ -24,7 +24,7 @@ impl<T> Model for Boxed<T> {
 }
 
 impl<T> Boxed<T> {
-    /// Moves a value to the heap. A refusal (no memory) lets it go.
+    /// Moves a value to the heap. A refusal (no memory) drops it.
     pub fn new(alloc: Global, value: T) -> Result<Boxed<T>, AllocError>
     where
         T: Drop,
@@ -41,7 +41,7 @@ impl<T> Boxed<T> {
         &self.inner
     }
 
-    /// The value, to be changed where it is. Takes no memory.
+    /// The value, to be changed in place. Takes no memory.
     pub fn get_mut(&mut self) -> &mut T
         ensures* lends { sem 𝓛 (Lends (the_row T.row) T.row self.entry result (λ w. w)) }
         ensures value { result.now ≡ self.old }
@@ -49,7 +49,7 @@ impl<T> Boxed<T> {
         &mut self.inner
     }
 
-    /// The value, off the heap. Takes no memory.
+    /// The value, moved off the heap. Takes no memory.
     pub fn into_inner(self) -> T
         ensures { result ≡ self }
     {

@@ -1,4 +1,4 @@
--- Since when a flow stands still, after a further look.
+-- Since when a flow has been still, after a further look.
 use Rattle.std.proofs.Common.{◌≡◌, ◌≢◌, ℕ, true, false, cond, List, [], ◌∷◌, ◌&&◌, Some, refl, sym, ap, ◌∙◌}
 use Rattle.std.proofs.Math.Dec.{eqb}
 use Rattle.std.proofs.lemmas.Bool.{and_parts, and_left, and_right, eqb-true, eq-eqb, ne_eqb, false_from_ne_true, cond-true, cond-false}
@@ -6,7 +6,7 @@ use Rattle.std.proofs.lemmas.Option.{none-some}
 use Rattle.call_traffic.specs.Looks.{Look, after_look, all_found}
 use Rattle.call_traffic.specs.Stillness.{since_when}
 
--- looks that all found one count stand still at no other
+-- looks that all found one count are still at no other
 pub one_count : (count other moment : ℕ) (looks : List Look) → since_when count looks ≡ Some moment → all_found other looks ≡ true → other ≡ count
 one_count count other moment [] since all = absurd (none-some moment since)
 one_count count other moment (look ∷ looks) since all =
@@ -30,7 +30,7 @@ goes_on count moment now (look ∷ looks) since =
       | false ↦ λ s. goes_on count moment now looks s
     ] since
 
--- behind looks that don't all found its count, one that found it stands alone at the least
+-- after looks that don't all found its count, only later ones can be the earliest
 not_from_here : (count now : ℕ) (look : Look) (looks : List Look) → all_found count (look ∷ looks) ≡ false → since_when count (after_look (look ∷ looks) now count) ≡ since_when count (after_look looks now count)
 not_from_here count now look looks none = cond-false (all_found count (after_look (look ∷ looks) now count)) _ _ (found_more count now (look ∷ looks) ∙ none)
 

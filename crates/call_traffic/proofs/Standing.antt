@@ -1,4 +1,4 @@
--- Since when a flow stands still, and whether it has for so long.
+-- Since when a flow has been still, and whether it has been for this long.
 use Rattle.std.proofs.Common.{◌≡◌, ℕ, ◌≤◌, ◌-◌, true, false, cond, List, [], ◌∷◌, ◌++◌, Some, refl, sym, ap, ◌∙◌, subst, arith, true≢false}
 use Rattle.std.proofs.Math.Dec.{eqb}
 use Rattle.std.proofs.Math.Nat.{le_refl}

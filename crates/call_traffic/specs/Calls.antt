@@ -24,7 +24,7 @@ abbrev pub with_way : End → Way → CallTraffic → CallTraffic
 with_way Caller way call = record call { from_caller = record call.from_caller { way = way } }
 with_way Callee way call = record call { from_callee = record call.from_callee { way = way } }
 
--- what came from both ends, RTCP too
+-- what came from both ends, including RTCP
 abbrev pub all_with_rtcp : CallTraffic → ℕ
 all_with_rtcp call = (total_with_rtcp call.from_caller + total_with_rtcp call.from_callee) % 2 ^ 64
 
@@ -36,7 +36,7 @@ abbrev pub is_still : ℕ → ℕ → Option Stillness → Bool
 is_still now limit None = false
 is_still now limit (Some stillness) = nat_le limit (now - stillness.since)
 
--- nothing came for so long, and that may be told
+-- nothing came for this long, and that may be reported
 abbrev pub is_silent : ℕ → ℕ → CallTraffic → Bool
 is_silent now limit call = nat_le call.next_telling now && is_still now limit call.stillness
 
@@ -57,13 +57,13 @@ has_number number call = call.number == number
 abbrev pub number_of : CallTraffic → ℕ
 number_of call = call.number
 
--- ---- the calls that stand
+-- ---- the live calls
 
--- the earliest of too many is forgotten
+-- if there are too many, the earliest is forgotten
 abbrev pub with_room : List CallTraffic → List CallTraffic
 with_room calls = if nat_le max_calls (length calls) then remove calls 0 else calls
 
--- One more call stands, behind all others: nothing came from its ends, and it was not answered.
+-- One more call is live, after all others: nothing came from its ends, and it was not answered.
 pub record IsBegun (number now : ℕ) (calls after : List CallTraffic) : Type 0 where
   pub call : CallTraffic
   pub last : after ≡ with_room calls ++ call ∷ []
@@ -73,12 +73,12 @@ pub record IsBegun (number now : ℕ) (calls after : List CallTraffic) : Type 0 
   pub from_callee : total call.from_callee ≡ 0
   pub unanswered : call.stillness ≡ None
 
--- all but the first such call
+-- all except the first such call
 abbrev pub without_first : (CallTraffic → Bool) → List CallTraffic → List CallTraffic
 without_first is_it [] = []
 without_first is_it (call ∷ calls) = if is_it call then calls else call ∷ without_first is_it calls
 
--- the first such call may not be told to be silent before a moment
+-- the first such call may not be reported as silent before a moment
 abbrev pub with_first_told : (CallTraffic → Bool) → ℕ → List CallTraffic → List CallTraffic
 with_first_told is_it moment [] = []
 with_first_told is_it moment (call ∷ calls) =

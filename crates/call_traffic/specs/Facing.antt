@@ -21,7 +21,7 @@ abbrev pub ports_of_session : End → Session → List ℕ
 ports_of_session end session =
     ports_facing end session.offerer (seats_in_use session.offer_taken session.answer_sent session.offer_sent session.answer_taken)
 
--- of an open offer, and of a session, where there is one
+-- of an open offer, and of a session, if there is one
 abbrev pub offered_ports : End → Option OpenOffer → List ℕ
 offered_ports end None = []
 offered_ports end (Some offer) = ports_facing end offer.offerer offer.seats

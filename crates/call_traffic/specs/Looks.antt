@@ -15,7 +15,7 @@ after_look looks moment count = looks ++ record { moment = moment; count = count
 abbrev pub all_found : ℕ → List Look → Bool
 all_found count looks = list_all (λ look. nat_eq look.count count) looks
 
--- none is later than one behind it
+-- none is later than one after it
 abbrev pub MomentsRise : List Look → Type 0
 MomentsRise [] = Unit {0}
 MomentsRise (look ∷ looks) = AllByRecursion (λ other. look.moment ≤ other.moment) looks × MomentsRise looks

@@ -6,7 +6,7 @@ use Rattle.call_traffic.specs.declared.relay_port.RelayPort.{RelayPort}
 abbrev pub rtcp_port : ℕ → ℕ
 rtcp_port number = (number + 1) % 2 ^ 16
 
--- the RTP datagrams since the call has the port
+-- the RTP datagrams since the call got the port
 abbrev pub came : RelayPort → ℕ
 came port = (2 ^ 64 + port.rtp - port.before) % 2 ^ 64
 

@@ -11,14 +11,14 @@ use Rattle.call_media.specs.declared.end.End.TheVariants.{Caller, Callee}
 use Rattle.call_media.specs.declared.session.Session.{Session}
 use Rattle.call_traffic.specs.declared.sources.Sources.{Sources}
 
--- both ends use the medium, the one sends, the other receives, and can be sent to
+-- both ends use the medium, the first sends, and the second receives and can be sent to
 abbrev pub is_sent : Description → Media → Description → Media → Bool
 is_sent own medium other other_medium =
     not (medium.port == 0) && not (other_medium.port == 0)
     && sends (way_of own medium) && receives (way_of other other_medium)
     && is_some (destination other other_medium)
 
--- from its own place, where it is sent
+-- from its own place, if it is sent
 abbrev pub source : Description → Media → Description → Media → Option Addr
 source own medium other other_medium =
     if is_sent own medium other other_medium then destination own medium else None

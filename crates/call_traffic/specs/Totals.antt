@@ -4,7 +4,7 @@ use Rattle.status.specs.declared.status.DatagramCounts.{DatagramCounts}
 use Rattle.call_traffic.specs.declared.call_traffic.CallTraffic.{CallTraffic}
 use Rattle.call_traffic.specs.EndTraffic.{total}
 
--- the RTP datagrams of calls that are over, and of those that stand
+-- the RTP datagrams of calls that are over, and of those that are live
 abbrev pub datagrams : DatagramCounts → List CallTraffic → DatagramCounts
 datagrams past calls = record {
   from_callers = (past.from_callers + sum_by (λ call. total call.from_caller) calls) % 2 ^ 64;

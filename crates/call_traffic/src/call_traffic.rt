@@ -15,14 +15,14 @@ use call_media::End;
 use sip_uri::Addr;
 use std::alloc::{AllocError, Global};
 
-/// How many RTP datagrams came from each end of a call since it has its ports.
+/// How many RTP datagrams came from each end of a call since the call got its ports.
 #[derive(Clone, Copy)]
 pub struct CarriedMedia {
     pub from_caller: u64,
     pub from_callee: u64,
 }
 
-/// The traffic of a call, by the last reading of its ports' counts.
+/// The traffic of a call, as of the last reading of its ports' counts.
 #[derive(Drop)]
 pub struct CallTraffic {
     pub(crate) number: u64,
@@ -30,9 +30,9 @@ pub struct CallTraffic {
     pub(crate) begun: u64,
     pub from_caller: EndTraffic,
     pub from_callee: EndTraffic,
-    /// For how long nothing came from either end. None before the answer, or where memory was refused.
+    /// For how long nothing came from either end. None before the answer, or if memory was refused.
     pub(crate) stillness: Option<Stillness>,
-    /// When it may next be told that the call is silent.
+    /// When it may next be reported that the call is silent.
     pub(crate) next_telling: u64,
 }
 
@@ -56,7 +56,7 @@ impl CallTraffic {
         }
     }
 
-    /// How much came from both ends, RTCP too: another number says that more came.
+    /// How much came from both ends, including RTCP: a different number means that more came.
     fn all_with_rtcp(&self) -> u64
         ensures { result ≡ all_with_rtcp self.now }
     {
@@ -64,8 +64,8 @@ impl CallTraffic {
         self.from_caller.total_with_rtcp().wrapping_add(callee)
     }
 
-    /// These ports face each end from now on, and no others: what came there by this reading doesn't count. Where
-    /// memory is refused some are left out, and the call is not silent any more.
+    /// These ports face each end from now on, and no others: what came there up to this reading doesn't count. If
+    /// memory is refused, some are left out, and the call is no longer silent.
     pub fn take_ports(
         &mut self,
         caller: &[RelayPort],
@@ -89,15 +89,15 @@ impl CallTraffic {
         Ok(())
     }
 
-    /// Memory was refused, so that some of its ports are not counted: the call is not silent any more. Takes no memory.
+    /// Memory was refused, so some of its ports are not counted: the call is no longer silent. Takes no memory.
     pub fn miss_ports(&mut self)
         ensures { self.new ≡ record self.old { stillness = None } }
     {
         self.stillness = None;
     }
 
-    /// The call was answered, or answered anew: RTP should come from these from now on, and the call stands still since
-    /// now. Takes no memory.
+    /// The call was answered, or answered again: RTP should come from these sources from now on, and the call has
+    /// been still since now. Takes no memory.
     pub fn expect(&mut self, sources: Sources, now: u64)
         ensures caller { self.new.from_caller.way.source ≡ sources.caller }
         ensures callee { self.new.from_callee.way.source ≡ sources.callee }
@@ -119,7 +119,7 @@ impl CallTraffic {
         self.stillness = Some(Stillness::new(now, self.all_with_rtcp()));
     }
 
-    /// A second has gone by. Takes no memory.
+    /// A second has passed. Takes no memory.
     pub fn look(&mut self, now: u64)
         ensures looks { (looks : List Look) → CallLooks looks self.old →
             CallLooks (after_look looks now (all_with_rtcp self.old)) self.new }
@@ -141,8 +141,8 @@ impl CallTraffic {
         }
     }
 
-    /// Whether neither RTP nor RTCP came from either end for so many milliseconds, by the looks since the call was
-    /// answered last, and that may be told. Takes no memory.
+    /// Whether neither RTP nor RTCP came from either end for `limit` milliseconds, by the looks since the call was
+    /// answered last, and that may be reported. Takes no memory.
     pub fn is_silent(&self, now: u64, limit: u64) -> bool
         ensures exact { result ≡ is_silent now limit self.now }
         ensures may { IsTrue result → self.now.next_telling ≤ now }
@@ -156,14 +156,14 @@ impl CallTraffic {
         }
     }
 
-    /// A second has gone by: where RTP should come from this end, if none came for ten seconds, and that was not told.
-    /// Takes no memory.
+    /// A second has passed: where RTP should come from at this end, if none came for ten seconds and that was not
+    /// reported. Takes no memory.
     pub fn silent_source(&mut self, end: End, now: u64) -> Option<Addr>
         ensures looks { (looks : List Look) → let was = traffic_from end self.old in IsStillnessOf looks was.way.stillness →
             IsStillnessOf (looks_since was.way.source looks now (total was)) (traffic_from end self.new).way.stillness }
         ensures silent { (looks : List Look) → let was = traffic_from end self.old in IsStillnessOf looks was.way.stillness →
             IfSome result (λ source. IsSilent was.way (after_look looks now (total was)) now source) }
-        // Each silent end is told.
+        // Each silent end is reported.
         ensures each { (looks : List Look) (source : Addr) → let was = traffic_from end self.old in IsStillnessOf looks was.way.stillness →
             MomentsRise (after_look looks now (total was)) →
             IsSilent was.way (after_look looks now (total was)) now source → result ≡ Some source }

@@ -13,12 +13,12 @@ use sip_uri::Addr;
 use status::Flow;
 use std::alloc::{AllocError, Global};
 
-/// What came from an end of a call, by the last reading of its ports' counts.
+/// What came from an end of a call, as of the last reading of its ports' counts.
 #[derive(Drop)]
 pub struct EndTraffic {
     /// The ports that face the end.
     pub(crate) ports: Vec<RelayPort>,
-    /// How many RTP datagrams came at ports that the call has no more.
+    /// How many RTP datagrams came at ports that the call no longer has.
     pub(crate) past: u64,
     pub(crate) recent: RecentCounts,
     pub(crate) way: Way,
@@ -31,7 +31,7 @@ fn is_among(ports: &[RelayPort], port: &RelayPort) -> bool
 }
 
 impl EndTraffic {
-    /// The end has no port. Takes no memory.
+    /// An end without ports. Takes no memory.
     pub(crate) fn new(alloc: Global) -> EndTraffic
         ensures ports { result.ports.items ≡ [] }
         ensures total { total result ≡ 0 }
@@ -63,8 +63,8 @@ impl EndTraffic {
         }
     }
 
-    /// A reading of the port at a place, if there is one: so many RTP datagrams had come there since the server's
-    /// start, and so many of RTCP above. Takes no memory.
+    /// A reading of the port at a place, if there is one: `rtp` RTP datagrams had come there since the server's
+    /// start, and `rtcp` of RTCP at the port above. Takes no memory.
     pub fn read(&mut self, at: usize, rtp: u64, rtcp: u64)
         ensures ports { self.new.ports.items ≡ with_reading at rtp rtcp self.old.ports.items }
         ensures others { self.new ≡ record self.old { ports = self.new.ports } }
@@ -80,21 +80,21 @@ impl EndTraffic {
         }
     }
 
-    /// How many RTP datagrams came since the call has ports. Takes no memory.
+    /// How many RTP datagrams came since the call got its ports. Takes no memory.
     pub fn total(&self) -> u64
         ensures { result ≡ total self.now }
     {
         self.past.wrapping_add(rtp_at(&self.ports))
     }
 
-    /// The same, with all RTCP at the ports: another number says that more came.
+    /// The same, with all RTCP at the ports: a different number means that more came.
     pub(crate) fn total_with_rtcp(&self) -> u64
         ensures { result ≡ total_with_rtcp self.now }
     {
         self.total().wrapping_add(rtcp_at(&self.ports))
     }
 
-    /// A second has gone by.
+    /// A second has passed.
     pub(crate) fn look(&mut self)
         ensures counts { self.new.recent.counts ≡ drop 1 self.old.recent.counts ++ total self.old ∷ [] }
         ensures others { self.new ≡ record self.old { recent = self.new.recent } }
@@ -103,7 +103,7 @@ impl EndTraffic {
         self.recent.look(total);
     }
 
-    /// How many RTP datagrams came since the call has ports, and in the last ten seconds. Takes no memory.
+    /// How many RTP datagrams came since the call got its ports, and in the last ten seconds. Takes no memory.
     pub(crate) fn count(&self) -> Flow
         ensures total { result.total ≡ total self.now }
         ensures recent { result.recent ≡ recent self.now }
@@ -115,7 +115,7 @@ impl EndTraffic {
         }
     }
 
-    /// Leaves each port that is none of these. What came there stays in the total.
+    /// Leaves each port that is not one of these. What came there stays in the total.
     fn leave_others(&mut self, ports: &[RelayPort])
         ensures ports { self.new.ports.items ≡ filter (is_among ports.now) self.old.ports.items }
         ensures total { total self.new ≡ total self.old }
@@ -127,7 +127,8 @@ impl EndTraffic {
         self.past = total.wrapping_sub(rtp_at(&self.ports));
     }
 
-    /// A port that faces the end from now on, if it did not before. What had come there by this reading doesn't count.
+    /// A port that faces the end from now on, if it did not before. What had come there up to this reading doesn't
+    /// count.
     fn add_port(&mut self, port: &RelayPort) -> Result<(), AllocError>
         ensures ok { OnOk result (self.new.ports.items ≡ with_port self.old.ports.items port.now) }
         ensures err { OnErr result (self.new.ports.items ≡ self.old.ports.items) }
@@ -146,7 +147,7 @@ impl EndTraffic {
     }
 
     /// These ports face the end from now on, and no others: what came before doesn't count. An error leaves some of
-    /// them out. The total stays, too, whatever it is.
+    /// them out. The total is kept in either case.
     pub(crate) fn take_ports(&mut self, ports: &[RelayPort]) -> Result<(), AllocError>
         ensures faces { OnOk result (All (λ p. is_among self.new.ports.items p ≡ true) ports.now) }
         ensures only { All (λ p. is_among ports.now p ≡ true) self.new.ports.items }
@@ -161,7 +162,7 @@ impl EndTraffic {
         Ok(())
     }
 
-    /// A second has gone by: where RTP should come from, if the end is silent and that was not told.
+    /// A second has passed: where RTP should come from, if the end is silent and that was not reported.
     pub(crate) fn silent_source(&mut self, now: u64) -> Option<Addr>
         ensures looks { (looks : List Look) → IsStillnessOf looks self.old.way.stillness →
             IsStillnessOf (looks_since self.old.way.source looks now (total self.old)) self.new.way.stillness }

@@ -63,8 +63,8 @@ fn push_of_session(
     push_ports(ports, end, session.offerer, &seats)
 }
 
-/// The even ports of the relay to which this end of the call sends RTP, those of an open offer first. A port may stand
-/// twice.
+/// The even ports of the relay to which this end of the call sends RTP, those of an open offer first. A port may
+/// occur twice.
 pub fn ports_of(alloc: Global, end: End, call: &Call) -> Result<Vec<u16>, AllocError>
     ensures { IfOk result (λ ports. ports.items ≡ ports_of end call.now) }
 {

@@ -1,5 +1,5 @@
-//! The traffic of calls: how many datagrams came from each end of a call, from which end none come, and in which calls
-//! none do. Moments, in milliseconds, and the counts of ports are handed in: no clock and no socket is read.
+//! The traffic of calls: how many datagrams came from each end of a call, from which end none come, and in which
+//! calls none do. Moments, in milliseconds, and the counts of ports are passed in: no clock and no socket is read.
 #![tactic(auto)]
 
 mod call_traffic;

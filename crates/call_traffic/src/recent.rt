@@ -2,7 +2,7 @@
 
 ghost use Rattle.std.specs.Prelude.{◌≡◌, [], ◌∷◌, ◌++◌, drop, replicate, slice_index};
 
-/// So many looks are remembered, one a second.
+/// How many looks are remembered, one a second.
 const LOOKS: usize = 10;
 
 /// How many datagrams had come at each of the last looks, the earliest first; 0 for looks before the first.
@@ -18,7 +18,7 @@ impl RecentCounts {
         RecentCounts { counts: [0; LOOKS] }
     }
 
-    /// A further look, in place of the earliest.
+    /// A further look, replacing the earliest.
     pub(crate) fn look(&mut self, count: u64)
         ensures { self.new.counts ≡ drop 1 self.old.counts ++ count ∷ [] }
     {

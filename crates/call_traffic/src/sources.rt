@@ -1,4 +1,4 @@
-//! Where the RTP of each end should come from, by the descriptions of both.
+//! Where the RTP of each end should come from, according to the descriptions of both.
 
 ghost use Rattle.std.specs.Prelude.{◌≡◌};
 ghost use Rattle.call_traffic.specs.Sources.{first_source, source, source_in, sources_of};
@@ -15,8 +15,8 @@ pub struct Sources {
     pub callee: Option<Addr>,
 }
 
-/// Where the RTP of a medium should come from that an end describes so, and the other end so: its own place, while both
-/// use the medium, it sends, and the other end receives (RFC 3264 sections 5.1, 6.1 and 8.4).
+/// Where the RTP of a medium should come from, given how each end describes the medium. It is the first end's own
+/// place, if both use the medium, this end sends, and the other end receives (RFC 3264 sections 5.1, 6.1 and 8.4).
 fn source(
     own: &Description<'_>,
     medium: &Media<'_>,
@@ -61,7 +61,7 @@ fn source_in(own: &Description<'_>, other: &Description<'_>) -> Option<Addr>
     first_source(own, own.media.as_slice(), other, other.media.as_slice())
 }
 
-/// Where the RTP of each end should come from, while this session stands: from a medium that is held, none should.
+/// Where the RTP of each end should come from, while this session lasts: from a medium that is held, none should.
 /// Takes no memory.
 pub fn sources_of(session: &Session) -> Sources
     ensures { result ≡ sources_of session.now }

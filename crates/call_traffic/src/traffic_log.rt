@@ -1,4 +1,4 @@
-//! The traffic of the calls that stand, and what came in all calls since the server's start.
+//! The traffic of the live calls, and what came in all calls since the server's start.
 
 ghost use Rattle.std.specs.Prelude.{◌≡◌, ◌<◌, ◌≤◌, ◌+◌, ◌-◌, ◌*◌, ◌^◌, ◌↔◌, [], ◌∷◌, IsTrue, OnOk, OnErr, find, if◌then◌else◌, min, option_map, position, remove, slice_index_or, vec_len};
 ghost use Rattle.call_traffic.specs.Calls.{IsBegun, carried, has_number, is_silent, number_of, with_first_told, with_room, without_first};
@@ -9,19 +9,19 @@ use crate::call_traffic::{CallTraffic, CarriedMedia};
 use status::DatagramCounts;
 use std::alloc::{AllocError, Global};
 
-/// So many calls are remembered: no more stand at a time.
+/// How many calls are remembered: at most this many are live at a time.
 const MAX_CALLS: usize = 256;
 
-/// It is looked at the calls so often, in milliseconds.
+/// How often the calls are looked at, in milliseconds.
 const BETWEEN_LOOKS: u64 = 1_000;
 
-/// A call is told to be silent no more often, in milliseconds.
+/// The minimum time between two reports that a call is silent, in milliseconds.
 const BETWEEN_TELLINGS: u64 = 60_000;
 
 /// A minute, in milliseconds.
 const MINUTE: u64 = 60_000;
 
-/// The traffic of the calls that stand, in the order in which they began, and of those that are over.
+/// The traffic of the live calls, in the order in which they began, and of those that are over.
 #[derive(Drop)]
 pub struct TrafficLog {
     alloc: Global,
@@ -37,7 +37,7 @@ fn has_number(call: &CallTraffic, number: u64) -> bool
     call.number == number
 }
 
-/// How many RTP datagrams came in a call, beside those of others.
+/// How many RTP datagrams came in a call, added to those of others.
 fn add(others: DatagramCounts, call: &CallTraffic) -> DatagramCounts
     ensures { result ≡ datagrams others (call.now ∷ []) }
 {
@@ -66,7 +66,7 @@ fn place_of_silent(calls: &[CallTraffic], now: u64, limit: u64) -> Option<usize>
 }
 
 impl TrafficLog {
-    /// No call began yet. Takes no memory.
+    /// A log in which no call began yet. Takes no memory.
     pub fn new(alloc: Global) -> TrafficLog
         ensures calls { result.calls.items ≡ [] }
         ensures past { result.past ≡ record { from_callers = 0; from_callees = 0 } }
@@ -100,7 +100,7 @@ impl TrafficLog {
         }
     }
 
-    /// The call at a place is over, or forgotten. What came in it stays in the totals.
+    /// Removes the call at a place, which is over or forgotten. What came in it stays in the totals.
     fn take_out(&mut self, at: usize) -> CallTraffic
         requires { at < vec_len self.old.calls }
         ensures call { result ≡ slice_index_or self.old.calls.items at result }
@@ -113,7 +113,7 @@ impl TrafficLog {
         call
     }
 
-    /// Of too many calls the earliest is forgotten, so that there is room for one more.
+    /// If there are too many calls, the earliest is forgotten, so that there is room for one more.
     fn make_room(&mut self)
         ensures calls { self.new.calls.items ≡ with_room self.old.calls.items }
         ensures datagrams { datagrams self.new.past self.new.calls.items ≡ datagrams self.old.past self.old.calls.items }
@@ -124,7 +124,8 @@ impl TrafficLog {
         }
     }
 
-    /// A call begins at this moment, without ports. Of too many the earliest is forgotten, which an error leaves so.
+    /// A call begins at this moment, without ports. If there are too many, the earliest is forgotten, even if an
+    /// error follows.
     pub fn begin(&mut self, number: u64, now: u64) -> Result<(), AllocError>
         ensures ok { OnOk result (IsBegun number now self.old.calls.items self.new.calls.items) }
         ensures err { OnErr result (self.new.calls.items ≡ with_room self.old.calls.items) }
@@ -136,7 +137,7 @@ impl TrafficLog {
         Ok(())
     }
 
-    /// The call of this number is over: what `call-ended` says of its media. None where it isn't known. Takes no
+    /// The call of this number is over: returns what `call-ended` says of its media. None if it isn't known. Takes no
     /// memory.
     pub fn end(&mut self, number: u64) -> Option<CarriedMedia>
         ensures carried { result ≡ option_map carried (find (has_number number) self.old.calls.items) }
@@ -149,8 +150,8 @@ impl TrafficLog {
         Some(call.carried())
     }
 
-    /// The number of the first answered call in which neither RTP nor RTCP came from either end for so many minutes, by
-    /// the looks at it, if one may be told. It is not told again for a minute. Takes no memory.
+    /// The number of the first answered call in which neither RTP nor RTCP came from either end for `minutes`
+    /// minutes, by the looks at it, if one may be reported. It is not reported again for a minute. Takes no memory.
     pub fn silent_call(&mut self, now: u64, minutes: u32) -> Option<u64>
         ensures silent { result ≡ option_map number_of (find (is_silent now (minutes * minute)) self.old.calls.items) }
         ensures told { self.new.calls.items ≡ with_first_told (is_silent now (minutes * minute)) (min (now + minute) (2 ^ 64 - 1)) self.old.calls.items }
@@ -162,7 +163,7 @@ impl TrafficLog {
         Some(number)
     }
 
-    /// Whether it is time to look at the calls. It is not again for a second. Takes no memory.
+    /// Whether it is time to look at the calls. After that it is not time again for a second. Takes no memory.
     pub fn is_due(&mut self, now: u64) -> bool
         ensures due { IsTrue result ↔ self.old.next_look ≤ now }
         ensures next { self.new.next_look ≡ (if result then min (now + second) (2 ^ 64 - 1) else self.old.next_look) }

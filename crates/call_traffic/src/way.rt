@@ -8,17 +8,17 @@ ghost use Rattle.call_traffic.specs.Ways.{IsSilent, looks_since};
 use crate::stillness::Stillness;
 use sip_uri::Addr;
 
-/// An end is silent from which no RTP came for so many milliseconds.
+/// An end is silent if no RTP came from it for this many milliseconds.
 const SILENT: u64 = 10_000;
 
-/// The way of the media from an end to the other.
+/// The way of the media from one end to the other.
 #[derive(Clone, Copy)]
 pub(crate) struct Way {
     /// Where RTP should come from; none while the call has no session, or is held so that none should come.
     pub(crate) source: Option<Addr>,
     /// For how long no RTP came, while some should.
     pub(crate) stillness: Stillness,
-    /// Whether it was told that the end is silent.
+    /// Whether it was reported that the end is silent.
     pub(crate) is_told: bool,
 }
 
@@ -45,14 +45,14 @@ impl Way {
         self.stillness = self.stillness.anew(now);
     }
 
-    /// A further look: so many datagrams have come by `now`. Where RTP should come from, if the end is silent and that
-    /// was not told.
+    /// A further look: `count` datagrams have come by `now`. Returns where RTP should come from, if the end is silent
+    /// and that was not reported.
     pub(crate) fn look(&mut self, now: u64, count: u64) -> Option<Addr>
         ensures looks { (looks : List Look) → IsStillnessOf looks self.old.stillness →
             IsStillnessOf (looks_since self.old.source looks now count) self.new.stillness }
         ensures silent { (looks : List Look) → IsStillnessOf looks self.old.stillness →
             IfSome result (λ source. IsSilent self.old (after_look looks now count) now source) }
-        // Each silent end is told.
+        // Each silent end is reported.
         ensures each { (looks : List Look) (source : Addr) → IsStillnessOf looks self.old.stillness →
             MomentsRise (after_look looks now count) → IsSilent self.old (after_look looks now count) now source →
             result ≡ Some source }

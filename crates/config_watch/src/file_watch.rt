@@ -1,4 +1,4 @@
-//! The looks at a file, one after the other.
+//! Looks at a file, one after the other.
 
 ghost use Rattle.std.specs.Prelude.{◌≡◌, None, Some, string_bytes};
 ghost use Rattle.config_watch.specs.Looks.{Looks, Says};
@@ -11,9 +11,9 @@ use std::fs::Files;
 pub enum Look {
     /// It is as at the last look.
     Same,
-    /// It is another: its moment of change or its size is, or it was looked at for the first time.
+    /// It differs: its time of change or its size does, or this is the first look.
     Changed,
-    /// There is none any more, or none at the first look.
+    /// It is gone, or was not there at the first look.
     Gone,
 }
 
@@ -21,11 +21,11 @@ pub enum Look {
 #[derive(Drop)]
 pub struct FileWatch {
     path: String,
-    /// None before the first look, and where it was forgotten.
+    /// None before the first look, and after it was forgotten.
     last: Option<Found>,
 }
 
-/// What a look says of this, where no look found it before.
+/// What a look says that found this, if no earlier look found anything.
 fn news_of(found: Found) -> Look
     ensures { Says None found result }
 {
@@ -36,7 +36,7 @@ fn news_of(found: Found) -> Look
 }
 
 impl FileWatch {
-    /// The file of a path, at which nobody looked. Takes no memory.
+    /// The file at a path, before the first look. Takes no memory.
     pub fn new(path: String) -> FileWatch
         ensures last { result.last ≡ None }
         ensures path { result.path ≡ path }

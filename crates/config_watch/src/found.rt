@@ -15,7 +15,7 @@ pub enum Found {
     NoFile,
 }
 
-/// What stands at a path now.
+/// What is at a path now.
 pub(crate) fn found_at<R: Files>(rt: &R, path: &str) -> Found {
     match fs::metadata(rt, path) {
         Ok(metadata) if metadata.is_file() => Found::File {

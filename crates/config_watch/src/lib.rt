@@ -1,4 +1,4 @@
-//! Whether a file is another than at the last look: looks find when it changed last, and its size.
+//! Whether a file differs from the last look: looks find when it was last changed, and its size.
 #![tactic(auto)]
 
 mod file_watch;

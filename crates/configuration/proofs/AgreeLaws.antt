@@ -1,4 +1,4 @@
--- A table has a flaw exactly where it is refused, and by the flaw's rule.
+-- A table has a flaw exactly if it is refused, and by the flaw's rule.
 use Rattle.std.proofs.Common.{◌≡◌, ℕ, ℤ, Bool, true, false, not, ◌&&◌, cond, nat_eq, List, [], ◌∷◌, Option, Some, None, option_map, unwrap_or, inl, inr, refl, sym, ap, ap₂, subst, ◌∙◌}
 use Rattle.std.specs.Prelude.{codes, ◌⊎◌, is_some, option_and_then, nat_le, ◌==◌, ◌%◌, length}
 use Rattle.std.specs.Option.{option_or}
@@ -26,7 +26,7 @@ use Rattle.configuration.specs.Flaws.{key_rule, rule_of, unknown_key, unknown_fl
 
 -- ---- what is read
 
--- a flaw of a file where there is no value, and none where there is one
+-- a flaw of a file if there is no value, and none if there is one
 abbrev pub Judges : {X : Type 0} → Option Flaw → Option X → Type 0
 Judges None None = ⊥
 Judges None (Some x) = Unit {0}
@@ -226,7 +226,7 @@ map_or : (f g : Option Flaw) → option_map rule_of (option_or f g) ≡ option_o
 map_or None g = refl
 map_or (Some f) g = refl
 
--- no rule is broken where this holds
+-- no rule is broken if this holds
 abbrev broken_unless : Bool → ConfigError → Option ConfigError
 broken_unless b e = cond b None (Some e)
 

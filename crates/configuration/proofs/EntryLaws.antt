@@ -1,4 +1,4 @@
--- The entries of a text, and what the grammar has read where it reads one.
+-- The entries of a text, and what the grammar has read when it reads one.
 use Rattle.std.proofs.Common.{◌≡◌, ◌==◌, ◌&&◌, ◌||◌, ℕ, zero, suc, Bool, true, false, not, List, [], ◌∷◌, length, drop, slice_index, find, Option, Some, None, refl, sym, ap, subst, ◌∙◌, arith}
 use Rattle.std.specs.Prelude.{Result, Ok, Err, MatchResult}
 use Rattle.std.specs.Result.{IsErrAnd}
@@ -106,7 +106,7 @@ line_of_table text read opens single some = table_read text read opens single (l
 pub line_of_array : (text : List ℕ) (read : Expression × List ℕ) → (first text == 91) ≡ true → (slice_index text 1 == 91) ≡ true → line text ≡ Some read → ArrayRead text read
 line_of_array text read opens double some = array_read text read opens double (line_of_entry text read some)
 
--- a closing bracket is there, and what stands behind it is left
+-- a closing bracket is there, and what comes after it is left
 pub closed : (text rest : List ℕ) → after_byte 93 text ≡ Some rest → (first text == 93) ≡ true → drop 1 text ≡ rest
 closed text rest closes here = some_is _ _ (rw here at closes)
 
@@ -129,7 +129,7 @@ pub record Left (key text : List ℕ) (under : Bool) (found : Option Entry) : Ty
   pub are : AreEntries text entries
   pub same : find (λ entry. is_same (root_of entry.key) key) (top_entries under entries) ≡ found
 
--- the next of them, which is the one or stands before it
+-- the next of them, which is that entry or comes before it
 pub record Next (key text : List ℕ) (under : Bool) (found : Option Entry) : Type 0 where
   pub entry : Entry
   pub from : entry.from ≡ skip_blank text

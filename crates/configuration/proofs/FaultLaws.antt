@@ -21,7 +21,7 @@ use Rattle.configuration.proofs.AgreeLaws.{flawless, flawed}
 some_is : {X : Type 0} (x y : X) → Some x ≡ Some y → x ≡ y
 some_is x y h = cc
 
--- a text whose table says none says none
+-- a text whose table is no configuration is none
 says_none : (bytes : List ℕ) (ms : Members) → IsTextOf bytes ms → config_of ms ≡ None → (c : Config) → ¬ (Says bytes c)
 says_none bytes ms text none c (ns, other, said) = clash (sym none ∙ ap config_of (some_is ms ns (sym text.1 ∙ other.1)) ∙ said) where
   clash : None ≡ Some c → ⊥

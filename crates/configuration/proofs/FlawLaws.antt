@@ -24,7 +24,7 @@ unknown_keys (entry ∷ entries) =
 
 -- ---- users
 
--- the user of a place, and those behind
+-- the user of a place, and those after it
 twice_at : (us : List (List ℕ)) (i : ℕ) (b : Bool) → i < length us → b ≡ list_any (λ v. pointwise nat_eq v (slice_index_or us i [])) (drop (suc i) us)
     → user_twice (drop i us) ≡ cond b (Some (UserTwice (slice_index_or us i []))) (user_twice (drop (suc i) us))
 twice_at [] i b less looked = absurd (omega (arith, less))

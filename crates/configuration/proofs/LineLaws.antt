@@ -22,7 +22,7 @@ pub told_none : (text : List ℕ) (found : Option Entry) → None ≡ option_map
 told_none text None is = refl
 told_none text (Some e) is = absurd cc
 
--- where no entry is of a key, the table has none of it
+-- if no entry is of a key, the table has no such key
 not_there : (bytes key : List ℕ) (es : List Entry) → AreEntries (skip_bom bytes) es → None ≡ line_among bytes key es → ¬ (HasKey bytes key)
 not_there bytes key es are none (ms, text, there) = go (first_top key es) refl where
   go : (o : Option Entry) → first_top key es ≡ o → ⊥

@@ -2,13 +2,13 @@
 use Rattle.std.proofs.Common.{◌≡◌, ◌≤◌, ◌<◌, ◌+◌, ◌-◌, ◌/◌, ◌%◌, ◌++◌, ℕ, zero, suc, [], ◌∷◌, refl, ap, arith}
 use Rattle.configuration.specs.Ranges.{numeral, numerals}
 
--- the next number of a range, and those behind it
+-- the next number of a range, and those after it
 pub next_numeral : (digits number last : ℕ) → number < last + 1 → numerals digits number (last + 1 - number) ≡ numeral digits number ∷ numerals digits (number + 1) (last + 1 - (number + 1))
 next_numeral digits number last less =
     let one_more : last + 1 - number ≡ suc (last + 1 - (number + 1)) = omega (arith, less) in
     ap (numerals digits number) one_more
 
--- none is left
+-- no number is left
 pub no_numeral : (digits number last : ℕ) → last + 1 ≤ number → numerals digits number (last + 1 - number) ≡ []
 no_numeral digits number last over =
     let none : last + 1 - number ≡ 0 = omega (arith, over) in

@@ -1,4 +1,4 @@
--- Numbers with so many digits.
+-- Numbers with a given number of digits.
 use Rattle.std.proofs.Common.{◌≡◌, ◌≤◌, ◌<◌, ◌+◌, ◌*◌, ◌/◌, ◌%◌, ◌^◌, ◌++◌, ℕ, zero, suc, Bool, true, false, leb, List, [], ◌∷◌, length, take, get_or, refl, sym, ap, subst, ◌∙◌, arith}
 use Rattle.std.specs.List.{list_all}
 use Rattle.std.specs.Char.{is_ascii_digit, digit_value}
@@ -39,7 +39,7 @@ tenth digits n h =
     let power : 10 ^ suc digits ≡ 10 ^ digits * 10 = omega arith in
     omega (arith, parts, power, h)
 
--- a number that has no more digits is read back
+-- a number with at most this many digits is read back
 pub value : (digits n : ℕ) → n < 10 ^ digits → digits_value 10 (numeral digits n) ≡ n
 value zero n h = omega (arith, h)
 value (suc digits) n h =

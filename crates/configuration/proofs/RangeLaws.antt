@@ -1,4 +1,4 @@
--- What a range stands for.
+-- What a range means.
 use Rattle.std.proofs.Common.{◌≡◌, ◌<◌, ◌+◌, ◌-◌, ◌^◌, ℕ, zero, suc, Bool, true, false, ◌&&◌, cond, leb, eqb, List, [], ◌∷◌, length, take_all, slice_index_or, Option, Some, None, refl, sym, ap, subst, ◌∙◌, arith}
 use Rattle.std.specs.Prelude.{option_and_then}
 use Rattle.std.specs.List.{Contains, list_all}
@@ -15,7 +15,7 @@ use Rattle.configuration.specs.RangeLaws.{IsBetween, RangeHolds}
 use Rattle.configuration.specs.declared.ranges.Range.{Range}
 use Rattle.configuration.proofs.Numerals.{digit_upto, long, all_digits, value, again}
 
--- ---- its last number has no more digits
+-- ---- its last number has at most as many digits
 
 are_all : (ds : List ℕ) → list_all is_ascii_digit ds ≡ true → AllDigits 10 ds
 are_all [] h = tt

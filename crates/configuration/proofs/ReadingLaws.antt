@@ -8,7 +8,7 @@ use Rattle.configuration.specs.Files.{config_of}
 use Rattle.configuration.proofs.RuleLaws.{kept}
 use Rattle.configuration.specs.Reading.{Says, ReadsConfig, BreaksFirst, Refuses}
 
--- a file is refused before any rule is looked at
+-- a file is refused before any rule is checked
 never_file : (a b c d e f g : Bool)
     → cond a (cond b (cond c (cond d (cond e (cond f (cond g None (Some SourceShare)) (Some CallDuration)) (Some Domain)) (Some MinExpires)) (Some Users)) (Some Address)) (Some RelayPorts) ≡ Some File
     → ⊥
@@ -25,7 +25,7 @@ no_rule_of_files : (c : Config) → first_broken c ≡ Some File → ⊥
 unfolding first_broken
 no_rule_of_files c h = never_file (has_relay_ports c) (has_address c) (has_users c) (has_lifetime c && has_longest_lifetime c) (has_domain c) (has_silence_limit c && has_length_limit c) (has_share c) h
 
--- the bytes say one configuration at most
+-- the bytes describe at most one configuration
 pub one_said : (bytes : List ℕ) (c d : Config) → Says bytes c → Says bytes d → c ≡ d
 one_said bytes c d (ms, text, said) (ns, other_text, other_said) =
     let table : ms ≡ ns = some_is _ _ (sym text.1 ∙ other_text.1) in

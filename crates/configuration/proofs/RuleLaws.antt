@@ -1,4 +1,4 @@
--- What the rules give that are kept.
+-- What follows from the rules that are kept.
 use Rattle.std.proofs.Common.{◌≡◌, ◌≢◌, ◌≤◌, ℕ, Bool, true, false, not, ◌&&◌, ◌==◌, cond, eqb, Option, Some, None, IfSome, refl, arith, List, [], ◌∷◌, subst}
 use Rattle.std.proofs.lemmas.Bool.{leb-true, eqb-true, eqb-false}
 use Rattle.configuration.specs.declared.config.Config.{Config}
@@ -6,7 +6,7 @@ use Rattle.configuration.specs.declared.error.ConfigError.{ConfigError}
 use Rattle.configuration.specs.Limits.{max_silent_minutes, max_longest_call_hours, max_source_share}
 use Rattle.configuration.specs.Rules.{is_server_address, has_relay_ports, has_address, is_user_list, has_users, has_lifetime, has_longest_lifetime, reaches, has_domain, is_upto, has_silence_limit, has_length_limit, has_share, first_broken, KeepsRules}
 
--- no rule is broken where each is kept alone
+-- no rule is broken if each of them is kept
 pub all_kept : (a b c d e f g : Bool) (t u v w x y z : ConfigError)
     → cond a (cond b (cond c (cond d (cond e (cond f (cond g None (Some z)) (Some y)) (Some x)) (Some w)) (Some v)) (Some u)) (Some t) ≡ None
     → (a ≡ true) × (b ≡ true) × (c ≡ true) × (d ≡ true) × (e ≡ true) × (f ≡ true) × (g ≡ true)

@@ -1,4 +1,4 @@
--- What the grammar has read where it reads an array or an inline table.
+-- What the grammar has read when it reads an array or an inline table.
 use Rattle.std.proofs.Common.{◌≡◌, ◌-◌, ◌<◌, ◌==◌, ℕ, zero, suc, true, false, List, drop, Option, Some, None, option_map, option_and_then, refl, sym, ap, subst, ◌∙◌, arith}
 use Rattle.std.specs.Prelude.{Result, Ok, Err, MatchResult}
 use Rattle.std.specs.Borrow.{Bor}
@@ -18,7 +18,7 @@ memory : (e : ParseError) → ((e ≡ OutOfMemory → ⊥) → ⊥) → e ≡ Ou
 memory OutOfMemory h = refl
 memory (At kind from to) h = absurd (h (λ is. cc))
 
--- what the grammar reads is refused for memory alone
+-- what the grammar reads is refused only because memory ran out
 pub for_memory : {A : Type 0} (e : ParseError) (expected : Option A) (read : A) → ((e ≡ OutOfMemory → ⊥) → expected ≡ None) → expected ≡ Some read → e ≡ OutOfMemory
 for_memory e expected read refused some = memory e (λ other. clash (refused other)) where
   clash : expected ≡ None → ⊥
@@ -37,12 +37,12 @@ map_some f (Some x) y h = (x, refl, some_is _ _ h)
 
 -- ---- arrays
 
--- an array that is read from here on, behind the items that were found
+-- an array that is read from here on, after the items that were found
 pub record ReadsItems (val : List ℕ → Read Data) (m : ℕ) (text : List ℕ) (read : Items × List ℕ) : Type 0 where
   pub found : Items
   pub is : items val m found text ≡ Some read
 
--- an item of it, and what stands behind its comma
+-- an item of it, and what comes after its comma
 pub record ReadsItem (val : List ℕ → Read Data) (m : ℕ) (text : List ℕ) (read : Items × List ℕ) : Type 0 where
   pub item : Data × List ℕ
   pub next : List ℕ

@@ -95,7 +95,7 @@ pair_keys key k what ns new some other none = dots_keys key k.0 k.1 what ns new 
 
 -- ---- one entry
 
--- a header stood before
+-- there was a header before
 abbrev pub is_under : List (List ℕ) → Bool
 is_under [] = false
 is_under (k ∷ path) = true

@@ -1,4 +1,4 @@
--- What a list of users has, and that a configuration that keeps the rules has one.
+-- The properties of a list of users, and that a configuration that keeps the rules has such a list.
 use Rattle.std.proofs.Common.{◌&&◌}
 use Rattle.std.proofs.lemmas.Bool.{leb-true}
 use Rattle.configuration.specs.Rules.{has_relay_ports, has_address, has_users, has_lifetime, has_longest_lifetime, has_domain, has_silence_limit, has_length_limit, has_share, first_broken, is_user_list}

@@ -51,7 +51,7 @@ number_is (Some value) n h keeps = step (as_integer value) h where
   step None h = absurd cc
   step (Some z) h = fits z (some_is (Some (number_of z)) n h)
 
--- no less than one that is some
+-- one that is no less than the least is no less than 1
 some_above : (least : ℕ) (o : Option ℕ) → 1 ≤ least → IfSome o (λ m. least ≤ m) → IfSome o (λ m. 1 ≤ m)
 some_above least None some h = tt
 some_above least (Some m) some h = omega (arith, some, h)

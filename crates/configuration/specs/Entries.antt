@@ -11,14 +11,14 @@ use Rattle.toml.specs.Tables.{Definition, key_value, std_table, array_table, Exp
 use Rattle.toml.specs.Parse.{line}
 use Rattle.configuration.specs.Files.{is_same}
 
--- an entry: the text from its beginning on, its key, the value or the header, and the text behind it
+-- an entry: the text from its beginning on, its key, the value or the header, and the text after it
 pub record Entry : Type 0 where
   pub from : List ℕ
   pub key : Key
   pub what : Definition
   pub behind : List ℕ
 
--- these entries are the text, but for what is blank between them
+-- these entries are the text, except for blanks between them
 abbrev pub AreEntries : List ℕ → List Entry → Type 0
 AreEntries text [] = length (skip_blank text) ≡ 0
 AreEntries text (entry ∷ entries) =
@@ -33,7 +33,7 @@ abbrev pub first_part : List (List ℕ) → List ℕ → List ℕ
 first_part [] last = last
 first_part (part ∷ path) last = part
 
--- the first part of a dotted key: the key of the table around
+-- the first part of a dotted key: the key of the enclosing table
 abbrev pub root_of : Key → List ℕ
 root_of key = first_part key.0 key.1
 
@@ -49,11 +49,11 @@ top_entries under (entry ∷ entries) =
 abbrev pub first_top : List ℕ → List Entry → Option Entry
 first_top key entries = find (λ entry. is_same (root_of entry.key) key) (top_entries false entries)
 
--- where the grammar reads something, what stands behind is left, unless memory runs out
+-- if the grammar reads something, what comes after it is left, unless memory runs out
 abbrev pub Skips : {A : Type 0} → Result (Bor (List ℕ)) ParseError → Read A → Type 0
 Skips {A} r expected = (read : A × List ℕ) → expected ≡ Some read → MatchResult r (λ rest. rest.now ≡ read.1) (λ e. e ≡ OutOfMemory)
 
--- where the grammar reads an entry, its key is given, whether it is a header, and what stands behind
+-- if the grammar reads an entry, its key is given, whether it is a header, and what comes after it
 abbrev pub IsRead : Result (code_key.Key × Bool × Bor (List ℕ)) ParseError → Read Expression → Type 0
 IsRead r expected = (read : Expression × List ℕ) → expected ≡ Some read
     → MatchResult r (λ entry. (key_view entry.0 ≡ read.0.0) × (entry.1 ≡ is_header read.0.1) × (entry.2.now ≡ read.1)) (λ e. e ≡ OutOfMemory)

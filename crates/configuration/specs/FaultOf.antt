@@ -9,7 +9,7 @@ use Rattle.configuration.specs.declared.key.Key.TheVariants as keys
 use Rattle.configuration.specs.declared.flaw.Flaw.{Flaw}
 use Rattle.configuration.specs.declared.flaw.Flaw.TheVariants.{NoToml, UnknownKey, Missing, OtherType, OutOfRange, Odd, PastLastPort, RelayPort, Malformed, RandomKey, UserCount, UserTwice}
 
--- the key whose line is told
+-- the key whose line is reported
 abbrev pub key_of_flaw : Flaw → Option (List ℕ)
 key_of_flaw (NoToml words) = None
 key_of_flaw (UnknownKey key) = Some key
@@ -46,13 +46,13 @@ HasTable bytes = (ms : Members) × IsTextOf bytes ms
 abbrev pub HasKey : List ℕ → List ℕ → Type 0
 HasKey bytes key = (ms : Members) × IsTextOf bytes ms × (has_key key ms ≡ true)
 
--- the line of the first entry of a key; none in a text that is too long to be looked through, and where the key is not
+-- the line of the first entry of a key; none in a text that is too long to be searched, and if the key is missing
 pub record IsLineOfKey (bytes key : List ℕ) (line : Option ℕ) : Type 0 where
   pub first : length bytes ≤ max_looked → IsLineOf bytes key line
   pub long : max_looked < length bytes → line ≡ None
   pub none : IfNone line ((max_looked < length bytes) ⊎ ¬ (HasKey bytes key))
 
--- the line of a key that is told
+-- the line that is reported for a key
 abbrev pub IsKeyLine : List ℕ → Option (List ℕ) → Option ℕ → Type 0
 IsKeyLine bytes None line = line ≡ None
 IsKeyLine bytes (Some key) line = IsLineOfKey bytes key line

@@ -51,7 +51,7 @@ abbrev pub natural : ℕ → ℤ → Option ℕ
 natural most (pos n) = if nat_le n most then Some n else None
 natural most (negsuc n) = None
 
--- the number, where it fits its field; any other reads as 0, which the rule of its key refuses as it refuses the number
+-- the number, if it fits its field; any other reads as 0, which the rule of its key refuses as it refuses the number
 abbrev pub fitting : ℕ → ℤ → ℕ
 fitting most z = unwrap_or (natural most z) 0
 
@@ -87,7 +87,7 @@ abbrev pub number_if_there : Option Data → Option (Option ℕ)
 number_if_there None = Some None
 number_if_there (Some value) = option_map (λ z. Some (number_of z)) (as_integer value)
 
--- the seconds that a binding lasts at most
+-- the maximum lifetime of a binding, in seconds
 abbrev pub max_expires_at : Members → Option (Option ℕ)
 max_expires_at ms = number_if_there (get_member (codes "max_expires") ms)
 
@@ -99,11 +99,11 @@ silent_minutes_at ms = number_if_there (get_member (codes "silent_minutes") ms)
 abbrev pub longest_call_hours_at : Members → Option (Option ℕ)
 longest_call_hours_at ms = number_if_there (get_member (codes "longest_call_hours") ms)
 
--- the transactions that stand at most for one source address
+-- the maximum number of live transactions for one source address
 abbrev pub source_share_at : Members → Option (Option ℕ)
 source_share_at ms = number_if_there (get_member (codes "source_share") ms)
 
--- the numbers, each key of which has to be there but those of the greatest lifetime, of a call's limits, of a source
+-- the numbers; each key has to be there, except those of the maximum lifetime, of a call's limits, of a source
 -- address's share, of the workers and of the first response
 unfoldable pub numbers_at : Members → Option Numbers
 numbers_at ms =
@@ -167,11 +167,11 @@ texts_of (item value rest) = option_and_then (λ text. option_map (λ texts. tex
 abbrev pub array_at : List ℕ → Members → Option Items
 array_at key ms = option_and_then as_array (get_member key ms)
 
--- the names that the texts stand for
+-- the names that the texts mean
 abbrev pub users_at : Members → Option (List (List ℕ))
 users_at ms = option_map expanded (option_and_then texts_of (array_at (codes "users") ms))
 
--- ---- how much is told
+-- ---- how much is logged
 
 abbrev pub level_named : List ℕ → Option LogLevel
 level_named word =
@@ -194,7 +194,7 @@ log_at ms = log_of (get_member (codes "log") ms)
 
 -- ---- all of them
 
--- whether the bindings least recently refreshed leave
+-- whether the least recently refreshed bindings are removed
 abbrev pub oldest_leaves_at : Members → Option Bool
 oldest_leaves_at ms = flag_of (get_member (codes "oldest_leaves") ms)
 
@@ -219,8 +219,8 @@ config_from numbers oldest_leaves ip key domain users log status = record {
   status = status;
 }
 
--- the configuration that a table says, whether or not it keeps the rules: none where a key is unknown, missing or of
--- another type
+-- the configuration in a table, whether or not it keeps the rules: none if a key is unknown, missing or of another
+-- type
 unfoldable pub config_of : Members → Option Config
 config_of ms =
     if has_known_keys ms then

@@ -1,5 +1,5 @@
 -- What is wrong with a configuration's file: the first flaw, in the order in which its values are read and the rules
--- are looked at.
+-- are checked.
 use Rattle.std.specs.Prelude.{◌==◌, ◌%◌, ℕ, ℤ, pos, Bool, true, false, ◌&&◌, nat_eq, nat_le, List, [], ◌∷◌, length, codes, Option, Some, None, is_some, option_and_then, unwrap_or, if◌then◌else◌}
 use Rattle.std.specs.List.{list_any}
 use Rattle.std.specs.Option.{option_or}
@@ -179,7 +179,7 @@ page_flaw is_open (Some value) = page_text_flaw is_open (as_str value)
 abbrev pub status_flaw : Option Data → Option Data → Option Flaw
 status_flaw is_open page = option_or (optional_flaw keys.StatusOpen is_open) (page_flaw (unwrap_or (flag_of is_open) false) page)
 
--- the first flaw for which a table says no configuration
+-- the first flaw for which a table is no configuration
 unfoldable pub said_flaw : Members → Option Flaw
 said_flaw ms =
     option_or (unknown_flaw (unknown_key ms))
@@ -203,7 +203,7 @@ said_flaw ms =
 
 -- ---- the rules
 
--- the number that the table says, which its field may have no room for
+-- the number that the table gives, which may not fit its field
 abbrev pub said_number : Members → Key → ℤ
 said_number ms key = unwrap_or (number_at (key_name key) ms) (pos 0)
 
@@ -230,7 +230,7 @@ abbrev pub malformed_user : List (List ℕ) → Option Flaw
 malformed_user [] = None
 malformed_user (u ∷ us) = if is_user u then malformed_user us else Some (Malformed keys.Users u)
 
--- the first user that stands again behind
+-- the first user that occurs again later
 abbrev pub user_twice : List (List ℕ) → Option Flaw
 user_twice [] = None
 user_twice (u ∷ us) = if list_any (λ v. pointwise nat_eq v u) us then Some (UserTwice u) else user_twice us
@@ -259,7 +259,7 @@ duration_flaw ms c =
 unfoldable pub share_flaw : Members → Config → Option Flaw
 share_flaw ms c = if has_share c then None else Some (OutOfRange keys.SourceShare (said_number ms keys.SourceShare))
 
--- the first flaw for which a configuration that a table says breaks a rule
+-- the first flaw for which the configuration in a table breaks a rule
 unfoldable pub rules_flaw : Members → Config → Option Flaw
 rules_flaw ms c =
     option_or (relay_flaw ms c) (option_or (address_flaw ms c) (option_or (users_flaw c) (option_or (lifetime_flaw ms c)

@@ -7,7 +7,7 @@ min_relay_port = 1024
 abbrev pub max_relay_pairs : ℕ
 max_relay_pairs = 2048
 
--- how many ports there are, 0 included: none is above 65535
+-- how many ports there are, 0 included: the last is 65535
 abbrev pub all_ports : ℕ
 all_ports = 65536
 
@@ -22,7 +22,7 @@ max_range_digits = 9
 abbrev pub max_workers : ℕ
 max_workers = 8
 
--- the workers where none are named
+-- the number of workers if none is configured
 abbrev pub usual_workers : ℕ
 usual_workers = 2
 
@@ -34,11 +34,11 @@ max_silent_minutes = 1440
 abbrev pub max_longest_call_hours : ℕ
 max_longest_call_hours = 168
 
--- the server transactions that stand for the requests of one source address
+-- the live server transactions for the requests of one source address
 abbrev pub max_source_share : ℕ
 max_source_share = 4096
 
--- the seconds that a callee's telephone has for its first response, at most and where none are named: 64*T1 (RFC 3261
+-- the maximum and default number of seconds that a callee's telephone has for its first response: 64*T1 (RFC 3261
 -- section 17.1.1.2)
 abbrev pub max_answer_within : ℕ
 max_answer_within = 32

@@ -11,7 +11,7 @@ use Rattle.configuration.specs.Ranges.{is_like_range}
 abbrev pub is_name_byte : ℕ → Bool
 is_name_byte b = is_ascii_alphanumeric b || is_one_of (codes "-_.") b
 
--- 1 to 64 of these, and nothing that is written as a range, whose names stand in its place
+-- 1 to 64 of these, and nothing that is written as a range, whose names take its place
 abbrev pub is_user : List ℕ → Bool
 is_user text = nat_le 1 (length text) && nat_le (length text) max_user_bytes && list_all is_name_byte text && not (is_like_range text)
 

@@ -1,4 +1,4 @@
--- What a range stands for.
+-- What a range means.
 use Rattle.std.specs.Prelude.{◌≡◌, ◌≤◌, ℕ, true, List, length, Some}
 use Rattle.std.specs.List.{Contains, list_all}
 use Rattle.std.specs.Char.{is_ascii_digit}
@@ -13,7 +13,7 @@ pub record IsBetween (r : Range) (name : List ℕ) : Type 0 where
   pub from : r.first ≤ digits_value 10 name
   pub to : digits_value 10 name ≤ r.last
 
--- a range stands for these names, and for no others
+-- a range means these names, and no others
 abbrev pub RangeHolds : Type 0
 RangeHolds = (text name : List ℕ) (r : Range) → range_of text ≡ Some r
     → (Contains (names_of text) name → IsBetween r name) × (IsBetween r name → Contains (names_of text) name)

@@ -1,4 +1,4 @@
--- Ranges of users: which names a text of their list stands for.
+-- Ranges of users: which names a text of their list means.
 use Rattle.std.specs.Prelude.{◌==◌, ◌+◌, ◌-◌, ◌^◌, ◌/◌, ◌%◌, ◌++◌, ℕ, zero, suc, Bool, false, ◌&&◌, nat_le, List, [], ◌∷◌, length, Option, Some, None, option_and_then, if◌then◌else◌}
 use Rattle.std.specs.Char.{is_ascii_digit}
 use Rattle.text.specs.Class.{is_run_of}
@@ -14,7 +14,7 @@ abbrev pub behind_dot : List ℕ → Option (List ℕ)
 behind_dot [] = None
 behind_dot (b ∷ bs) = if b == 46 then Some bs else None
 
--- what stands behind two dots, the first of which is the first of all
+-- what comes after two dots, the first of which is the first dot of all
 abbrev pub last_of : List ℕ → Option (List ℕ)
 last_of text = option_and_then behind_dot (after 46 text)
 
@@ -29,7 +29,7 @@ is_like_range text = are_digits (before 46 text) (last_of text)
 abbrev pub ordered : ℕ → ℕ → ℕ → Option Range
 ordered digits first last = if nat_le first last then Some (record { digits = digits; first = first; last = last }) else None
 
--- 1 to 9 digits, the same count of both, and the first number not above the last
+-- two numbers of 1 to 9 digits, both with the same number of digits, and the first number not above the last
 abbrev pub range_between : List ℕ → List ℕ → Option Range
 range_between first last =
     if nat_le 1 (length first) && length first == length last && nat_le (length first) max_range_digits
@@ -41,12 +41,12 @@ range_of text = option_and_then (λ last. range_between (before 46 text) last) (
 
 -- ---- its names
 
--- the last digits of a number, so many, with zeros where it has fewer
+-- the last `digits` digits of a number, with zeros if it has fewer
 abbrev pub numeral : ℕ → ℕ → List ℕ
 numeral zero n = []
 numeral (suc digits) n = numeral digits (n / 10) ++ ((48 + n % 10) ∷ [])
 
--- so many numbers from the first on
+-- `count` numbers from the first on
 abbrev pub numerals : ℕ → ℕ → ℕ → List (List ℕ)
 numerals digits first zero = []
 numerals digits first (suc count) = numeral digits first ∷ numerals digits (first + 1) count
@@ -67,7 +67,7 @@ abbrev pub names_or : List ℕ → Option Range → List (List ℕ)
 names_or text None = text ∷ []
 names_or text (Some r) = names_in r
 
--- what a text of the list stands for: the numbers of its range, or itself
+-- what a text of the list means: the numbers of its range, or itself
 abbrev pub names_of : List ℕ → List (List ℕ)
 names_of text = names_or text (range_of text)
 
@@ -83,7 +83,7 @@ all_names (text ∷ texts) = names_of text ++ all_names texts
 abbrev pub fits : ℕ → List (List ℕ) → Bool
 fits room texts = nat_le (count_all texts) room
 
--- the names, in their order; where they would be too many, the texts as they stand, which the rule of users refuses
--- as it refuses the names
+-- the names, in their order; if they would be too many, the texts unchanged, which the rule of users refuses as it
+-- refuses the names
 abbrev pub expanded : List (List ℕ) → List (List ℕ)
 expanded texts = if fits max_users texts then all_names texts else texts

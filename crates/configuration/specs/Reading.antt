@@ -15,7 +15,7 @@ use Rattle.configuration.specs.Files.{number_at, text_at, config_of}
 abbrev pub IsTextOf : List ℕ → Members → Type 0
 IsTextOf bytes ms = IsUtf8 bytes × (parse_document bytes ≡ Some ms)
 
--- of an error of TOML's reader: want of memory, or a text without a table
+-- of an error of TOML's reader: a lack of memory, or a text without a table
 abbrev pub IsErrorOf : Error → ConfigError → Type 0
 IsErrorOf error OutOfMemory = IsMemory error
 IsErrorOf error RelayPorts = ⊥
@@ -78,7 +78,7 @@ Refuses bytes File = (c : Config) → ¬ (Says bytes c)
 Refuses bytes CallDuration = BreaksFirst bytes CallDuration
 Refuses bytes SourceShare = BreaksFirst bytes SourceShare
 
--- what a table says of a configuration, key by key: the very numbers, and the address of the very text
+-- what a table says of a configuration, key by key: the exact numbers, and the address of the exact text
 pub record IsWritten (ms : Members) (c : Config) : Type 0 where
   pub relay_first : number_at (codes "relay_first") ms ≡ Some (pos c.relay_first)
   pub relay_pairs : number_at (codes "relay_pairs") ms ≡ Some (pos c.relay_pairs)
@@ -93,7 +93,7 @@ pub record IsWritten (ms : Members) (c : Config) : Type 0 where
 abbrev pub IsWrittenIn : List ℕ → Config → Type 0
 IsWrittenIn bytes c = (ms : Members) × IsTextOf bytes ms × IsWritten ms c
 
--- A call gave the value that is said, or found that none is, unless memory ran out.
+-- A call returned the value that is there, or found that there is none, unless memory ran out.
 abbrev pub Gives : {X : Type 0} → Result X ConfigError → Option X → Type 0
 Gives (Ok x) said = said ≡ Some x
 Gives (Err OutOfMemory) said = Unit {0}

@@ -12,7 +12,7 @@ use Rattle.configuration.specs.declared.error.ConfigError.TheVariants.{RelayPort
 
 -- ---- the relay's ports
 
--- the port behind the last relay port: a pair has two
+-- the port after the last relay port: a pair has two
 abbrev pub relay_end : Config → ℕ
 relay_end c = c.relay_first + 2 * c.relay_pairs
 
@@ -31,7 +31,7 @@ has_relay_ports c =
 
 -- ---- where the server is
 
--- not 0.0.0.0, and below 224.0.0.0, where groups begin
+-- not 0.0.0.0, and below 224.0.0.0, where multicast begins
 abbrev pub is_server_address : List ℕ → Bool
 is_server_address ip = not (list_all (λ octet. octet == 0) ip) && nat_lt (slice_index ip 0) 224
 

@@ -1,4 +1,4 @@
--- Where the page is served that shows what the server does, as a file says it.
+-- Where the status page is served, which shows what the server does, as a file says it.
 use Rattle.std.specs.Prelude.{ℕ, Bool, ◌||◌, ◌==◌, List, [], ◌∷◌, codes, slice_index, Option, Some, None, option_map, option_and_then, if◌then◌else◌}
 use Rattle.text.specs.Cut.{before, after}
 use Rattle.text.specs.Number.{number_upto}
@@ -7,7 +7,7 @@ use Rattle.sip_uri.specs.Hosts.{ip4_of}
 use Rattle.configuration.specs.Flags.{flag_of}
 use Rattle.sip_uri.specs.declared.uri.Addr.{Addr}
 
--- a port from 1 to 65535: digits, the first of which is no 0
+-- a port from 1 to 65535: digits, the first of which is not 0
 abbrev pub page_port : List ℕ → Option ℕ
 page_port [] = None
 page_port (digit ∷ digits) = if digit == 48 then None else number_upto 65535 (digit ∷ digits)
@@ -24,7 +24,7 @@ page_addr text =
 abbrev pub is_loopback : List ℕ → Bool
 is_loopback ip = slice_index ip 0 == 127
 
--- the page's address: one of loopback, or any where it is open
+-- the page's address: a loopback address, or any address if the page is open
 abbrev pub page_at : Bool → List ℕ → Option Addr
 page_at is_open text = option_and_then (λ addr. if is_open || is_loopback addr.ip then Some addr else None) (page_addr text)
 

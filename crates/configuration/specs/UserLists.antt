@@ -1,4 +1,4 @@
--- What a list of users has that the key `users` may list.
+-- The properties of a list of users that the key `users` may list.
 use Rattle.std.specs.Prelude.{◌≡◌, ◌≤◌, ℕ, true, List, length, None}
 use Rattle.std.specs.List.{list_all}
 use Rattle.registrar.specs.Limits.{max_users}
@@ -13,7 +13,7 @@ pub record HoldsUsers (users : List (List ℕ)) : Type 0 where
   pub formed : list_all is_user users ≡ true
   pub distinct : are_distinct users ≡ true
 
--- so it is of each such list
+-- this holds for each such list
 abbrev pub UserListHolds : Type 0
 UserListHolds = (users : List (List ℕ)) → is_user_list users ≡ true → HoldsUsers users
 

@@ -7,7 +7,7 @@ use sip_uri::{Addr, put_ip4};
 use std::alloc::{AllocError, Global};
 use text::{Text, Texts};
 
-/// How an office is configured. It may break each rule.
+/// How an office is configured. It may break any of the rules.
 pub struct Config {
     /// The first relay port.
     pub relay_first: u16,
@@ -15,34 +15,34 @@ pub struct Config {
     pub relay_pairs: u16,
     /// The server's address.
     pub ip: [u8; 4],
-    /// The port that the server has for SIP.
+    /// The port that the server uses for SIP.
     pub sip_port: u16,
     /// Who may register.
     pub users: Texts<'static>,
-    /// The seconds that a binding lasts at least.
+    /// The minimum lifetime of a binding, in seconds.
     pub min_expires: u32,
-    /// The seconds that a binding lasts at most; none where as long as is asked for.
+    /// The maximum lifetime of a binding, in seconds; none if a binding lasts as long as the telephone asks for.
     pub max_expires: Option<u32>,
-    /// Whether the bindings least recently refreshed leave where a user would have too many.
+    /// Whether the least recently refreshed bindings are removed when a user would have too many.
     pub oldest_leaves: bool,
-    /// The minutes after which an answered call is ended of which no media come, if there are any.
+    /// The minutes after which an answered call without media is ended, if there is such a limit.
     pub silent_minutes: Option<u32>,
-    /// The hours after its first answer at which a call is ended, if there are any.
+    /// The hours after its first answer at which a call is ended, if there is such a limit.
     pub longest_call_hours: Option<u32>,
-    /// The server transactions that stand at most for the requests of one source address, 1 to 4,096; none where no
-    /// address has a limit of its own.
+    /// The maximum number of live server transactions for the requests of one source address, 1 to 4,096; none if
+    /// there is no such limit.
     pub source_share: Option<u32>,
-    /// The office's domain. Where none is named, it is the server's address.
+    /// The office's domain. If none is named, it is the server's address.
     pub domain: Option<Text<'static>>,
     /// How many threads carry media.
     pub workers: u8,
-    /// The key of the random numbers that salts are taken from.
+    /// The key of the random numbers from which salts are taken.
     pub random_key: [u8; 32],
-    /// How much is told of what the server does.
+    /// How much the server logs of what it does.
     pub log: LogLevel,
     /// The seconds that a callee's telephone has for its first response to an INVITE.
     pub answer_within: u8,
-    /// Where the page is served that shows what the server does, if it is.
+    /// Where the status page is served, which shows what the server does, if it is served.
     pub status: Option<Addr>,
 }
 
@@ -73,7 +73,7 @@ impl Drop for Config {
 impl Config {
     ghost use Rattle.configuration.specs.Domain.{domain_text};
 
-    /// The text of the office's domain: the name that is configured, or the server's address.
+    /// The text of the office's domain: the configured name, or the server's address.
     pub fn domain_text(&self, alloc: Global) -> Result<Text<'static>, AllocError>
         ensures { IfOk result (λ text. text ≡ domain_text self.now) }
     {

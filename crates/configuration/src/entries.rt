@@ -1,4 +1,4 @@
-//! The entries of a text, one a line: a key with its value, or the header of a table.
+//! The entries of a text, one per line: a key with its value, or the header of a table.
 
 ghost use Rattle.std.specs.Prelude.{◌≡◌, ◌≤◌, ◌<◌, ◌&&◌, ◌||◌, not, List, length, option_map, IfOk, IfSome, MatchResult};
 ghost use Rattle.toml.specs.Parse as grammar;
@@ -36,7 +36,7 @@ fn header_key(alloc: Global, s: &str) -> Result<(Key, &str), ParseError>
     Ok((key, skip(rest, 1)))
 }
 
-/// The key of an entry, whether it is a header, and what stands behind it.
+/// The key of an entry, whether it is a header, and what comes after it.
 fn read_entry(alloc: Global, s: &str) -> Result<(Key, bool, &str), ParseError>
     ensures value { IsRead result (grammar.line s.now) }
     ensures shorter { IfOk result (λ entry. length entry.2.now < length s.now) }
@@ -67,14 +67,14 @@ fn root_of<'k>(key: &'k Key) -> &'k [u8]
     }
 }
 
-/// Whether an entry of this name is of a key of the whole file. A pair under a header is in that header's table.
+/// Whether an entry with this name is of a key of the whole file. A pair under a header is in that header's table.
 fn is_of(name: &Key, is_header: bool, under_header: bool, key: &[u8]) -> bool
     ensures { result ≡ ((is_header || not under_header) && is_same (root_of (key_view name.now)) key.now) }
 {
     (is_header || !under_header) && is_same(root_of(name), key)
 }
 
-/// The text from the first entry on that is of a key of the whole file.
+/// The text from the first entry that is of a key of the whole file.
 pub(crate) fn first_top<'t>(
     alloc: Global,
     text: &'t str,

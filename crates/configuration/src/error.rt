@@ -3,8 +3,8 @@
 use std::alloc::{AllocError, AllocFailed};
 use thiserror::Error;
 
-/// Why a configuration is refused: the first rule, in the order of the variants, that it breaks, or want of memory. Of
-/// a file, `File` comes before them.
+/// Why a configuration is refused: the first rule, in the order of the variants, that it breaks, or a lack of memory.
+/// For a file, `File` comes before them.
 #[derive(Clone, Copy, Debug, Error)]
 pub enum ConfigError {
     #[error("out of memory")]
@@ -21,7 +21,7 @@ pub enum ConfigError {
     /// or a range of other than 1 to 9 digits at both ends, or one whose first number is above its last.
     #[error("C3: users")]
     Users,
-    /// The least lifetime of a binding is not in 1 to 3600 seconds.
+    /// The minimum lifetime of a binding is not in 1 to 3600 seconds.
     #[error("C4: least lifetime")]
     MinExpires,
     /// The domain is no host name.
@@ -36,7 +36,7 @@ pub enum ConfigError {
     /// The minutes without media are not 1 to 1440, or the hours of the longest call not 1 to 168.
     #[error("C7: call duration limit")]
     CallDuration,
-    /// The transactions that stand at most for one source address are not 1 to 4096.
+    /// The maximum number of live transactions for one source address is not 1 to 4096.
     #[error("C8: share of one source address")]
     SourceShare,
 }

@@ -1,4 +1,4 @@
-//! Why a text is no configuration that keeps the rules, and where.
+//! Why a text is not a configuration that keeps the rules, and where.
 
 ghost use Rattle.std.specs.Prelude.{◌≡◌, ◌≤◌, ℕ, true, length, take, Some, option_map, IfOk, IfSome, IfNone};
 ghost use Rattle.std.specs.Option.{option_copied};
@@ -19,15 +19,15 @@ use text::Text;
 use toml::Table;
 use toml::de::Error;
 
-/// Why a text is no configuration that keeps the rules.
+/// Why a text is not a configuration that keeps the rules.
 #[derive(Drop)]
 pub struct ConfigFault {
-    /// The line, from 1. None where a key is missing, or the text is too long to be looked through.
+    /// The line, from 1. None if a key is missing, or the text is too long to be searched.
     pub line: Option<usize>,
     pub flaw: Flaw<'static>,
 }
 
-/// The key whose line is told.
+/// The key whose line is reported.
 fn key_of_flaw<'f>(flaw: &'f Flaw<'static>) -> Option<&'f [u8]>
     ensures { option_copied result ≡ key_of_flaw flaw.now }
 {
@@ -66,7 +66,7 @@ fn error_line(bytes: &[u8], error: &Error) -> Option<usize>
     Some(line_behind(&bytes[..span.start]))
 }
 
-/// What is wrong with a text of which TOML's reader found this error.
+/// What is wrong with a text in which TOML's reader found this error.
 fn no_table(alloc: Global, bytes: &[u8], error: &Error) -> Result<ConfigFault, AllocError>
     requires within { IsWithin bytes.now error.now }
     requires text { ¬ (IsMemory error.now) }
@@ -79,7 +79,7 @@ fn no_table(alloc: Global, bytes: &[u8], error: &Error) -> Result<ConfigFault, A
     })
 }
 
-/// What is wrong with a text of whose table this is the first flaw.
+/// What is wrong with a text whose table has this as its first flaw.
 fn at_line(alloc: Global, bytes: &[u8], flaw: Flaw<'static>) -> Result<ConfigFault, AllocError>
     requires { HasTable bytes.now }
     ensures flaw { IfOk result (λ fault. fault.flaw ≡ flaw.entry) }
@@ -105,8 +105,8 @@ fn table_fault(
     }
 }
 
-/// Why a text is no configuration that keeps the rules; none where it is one. The rule is that for which `read_config`
-/// refuses it.
+/// Why a text is not a configuration that keeps the rules; none if it is one. The rule is the one for which
+/// `read_config` refuses it.
 pub fn fault_of(alloc: Global, bytes: &[u8]) -> Result<Option<ConfigFault>, AllocError>
     // The first flaw, and its line.
     ensures found { IfOk result (λ fault. IfSome fault (IsFaultOf bytes.now)) }

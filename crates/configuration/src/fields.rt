@@ -22,10 +22,10 @@ use toml::{Table, Value};
 
 pub(crate) const MAX_WORKERS: u8 = 8;
 
-/// The workers where none are named.
+/// The number of workers if none is configured.
 const USUAL_WORKERS: u8 = 2;
 
-/// The seconds that a callee's telephone has for its first response, at most and where none are named: 64*T1.
+/// The maximum and default number of seconds that a callee's telephone has for its first response: 64*T1.
 pub(crate) const MAX_ANSWER_WITHIN: u8 = 32;
 
 fn few(most: u8, number: u8) -> Option<u8>
@@ -51,7 +51,7 @@ fn few_in(most: u8, value: &Value) -> Option<u8>
     few_of(most, value.as_integer()?)
 }
 
-/// A number from 1 to the most; the usual one where the key is missing.
+/// A number from 1 to the most; the usual one if the key is missing.
 fn few_at(table: &Table, key: &str, most: u8, usual: u8) -> Option<u8>
     ensures { result ≡ few_of most usual (get_member key.now (table_view table.now)) }
 {
@@ -73,7 +73,7 @@ fn answer_within_at(table: &Table) -> Option<u8>
     few_at(table, "answer_within", MAX_ANSWER_WITHIN, MAX_ANSWER_WITHIN)
 }
 
-/// A number that may be missing: seconds, minutes, hours or transactions; none where the value is of another type.
+/// A number that may be missing: seconds, minutes, hours or transactions; none if the value is of another type.
 fn number_if_there(table: &Table, key: &str) -> Option<Option<u32>>
     ensures { result ≡ number_if_there (get_member key.now (table_view table.now)) }
 {

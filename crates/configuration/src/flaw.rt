@@ -5,10 +5,10 @@ use crate::key::Key;
 use std::alloc::{AllocError, Global};
 use text::Text;
 
-/// What is wrong with a configuration's file, and the value that is.
+/// What is wrong with a configuration's file, and the value at fault.
 #[derive(Drop)]
 pub enum Flaw<'a> {
-    /// It is no UTF-8 or no TOML, in the words of TOML's reader.
+    /// It is not UTF-8 or not TOML, in the words of TOML's reader.
     NoToml(Text<'a>),
     UnknownKey(Text<'a>),
     Missing(Key),
@@ -17,13 +17,13 @@ pub enum Flaw<'a> {
     OutOfRange(Key, i64),
     /// The first relay port is odd.
     Odd(i64),
-    /// So many pairs end above port 65535.
+    /// This many pairs end above port 65535.
     PastLastPort(i64),
     /// The port for SIP is one of the relay's.
     RelayPort(i64),
     /// The address, the domain, a user, the word of the log, or the address of the page.
     Malformed(Key, Text<'a>),
-    /// The key of the random numbers has so many bytes, which are secret.
+    /// The key of the random numbers has this many bytes, which are secret.
     RandomKey(usize),
     UserCount(usize),
     UserTwice(Text<'a>),

@@ -28,7 +28,7 @@ use text::Text;
 use toml::value::Array;
 use toml::{Table, Value};
 
-/// The first key of a table that is none of a configuration.
+/// The first key of a table that is not a key of a configuration.
 fn unknown_key(table: &Table) -> Option<&str>
     ensures { option_copied result ≡ unknown_key (table_view table.now) }
 {
@@ -191,7 +191,7 @@ fn status_flaw(table: &Table) -> Option<Flaw<'_>>
     optional_flaw(table, Key::StatusOpen).or(page_flaw(table, is_open))
 }
 
-/// The first flaw for which a table says no configuration.
+/// The first flaw for which a table is no configuration.
 #[tactic(auto, unfolding(crate::specs::Flaws::said_flaw))]
 fn said_flaw(table: &Table) -> Option<Flaw<'_>>
     ensures { result ≡ said_flaw (table_view table.now) }
@@ -216,7 +216,7 @@ fn said_flaw(table: &Table) -> Option<Flaw<'_>>
         .or(status_flaw(table))
 }
 
-/// The number that a table says, which its field may have no room for.
+/// The number that a table gives, which may not fit its field.
 fn said_number(table: &Table, key: Key) -> i64
     ensures { result ≡ said_number (table_view table.now) key }
 {
@@ -270,7 +270,7 @@ fn malformed_user<'c>(users: &'c [Text<'static>]) -> Option<Flaw<'c>>
     None
 }
 
-/// Whether the user at a place stands again behind.
+/// Whether the user at a place occurs again after it.
 fn stands_again(users: &[Text<'static>], at: usize) -> bool
     requires { at < length users.now }
     ensures { result ≡ list_any (λ other. pointwise nat_eq other (slice_index_or users.now at [])) (drop (at + 1) users.now) }
@@ -352,7 +352,7 @@ fn share_flaw<'t>(table: &'t Table, config: &Config) -> Option<Flaw<'t>>
     None
 }
 
-/// The first flaw for which a configuration that a table says breaks a rule.
+/// The first flaw for which the configuration in a table breaks a rule.
 #[tactic(auto, unfolding(crate::specs::Flaws::rules_flaw))]
 fn rules_flaw<'c>(table: &'c Table, config: &'c Config) -> Option<Flaw<'c>>
     ensures { result ≡ rules_flaw (table_view table.now) config.now }
@@ -376,7 +376,7 @@ fn kept(alloc: Global, flaw: Option<Flaw<'_>>) -> Result<Option<Flaw<'static>>, 
     }
 }
 
-/// The first flaw of a table; none where it says a configuration that keeps the rules.
+/// The first flaw of a table; none if it is a configuration that keeps the rules.
 pub(crate) fn flaw_in(alloc: Global, table: &Table) -> Result<Option<Flaw<'static>>, AllocError>
     ensures { IfOk result (λ flaw. flaw ≡ flaw_in (table_view table.now)) }
 {

@@ -79,7 +79,7 @@ impl Key {
         }
     }
 
-    /// What is asked of its value, in words.
+    /// What its value has to be, in words.
     pub(crate) fn asked(self) -> &'static str {
         match self {
             Key::RelayFirst => "an even port from 1024 to 65534",

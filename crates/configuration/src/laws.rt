@@ -3,7 +3,8 @@
 ghost use Rattle.configuration.specs.RangeLaws.{RangeHolds};
 ghost use Rattle.configuration.specs.UserLists.{KeptUsersAreAList, UserListHolds};
 
-/// A range stands for a name exactly if that has as many digits as its ends, and its number lies between them.
+/// A range contains a name exactly if the name has as many digits as the range's ends, and its number lies between
+/// them.
 pub fn laws_of_ranges()
     ensures holds { RangeHolds }
 {}

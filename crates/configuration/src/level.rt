@@ -1,11 +1,11 @@
-//! How much a server tells of what it does.
+//! How much a server logs of what it does.
 
 ghost use Rattle.std.specs.Prelude.{◌≡◌};
 ghost use Rattle.configuration.specs.Files.{level_named};
 
 use crate::tables::is_same;
 
-/// How much a server tells of what it does. Each level tells more than the one before.
+/// How much a server logs of what it does. Each level logs more than the one before.
 #[derive(Clone, Copy, Debug)]
 pub enum LogLevel {
     Nothing,
@@ -15,7 +15,7 @@ pub enum LogLevel {
     All,
 }
 
-/// Where no level is named.
+/// The level if none is named.
 pub(crate) const USUAL_LEVEL: LogLevel = LogLevel::Calls;
 
 /// The level that a file names.

@@ -1,6 +1,6 @@
-//! How an office is configured: its values, the rules that they keep, and the file that says them (TOML).
+//! How an office is configured: its values, the rules that they keep, and the file that holds them (TOML).
 //!
-//! A configuration is a plain value, which may break the rules: `check` says which is broken first.
+//! A configuration is a plain value, which may break the rules: `check` returns the first that is broken.
 #![tactic(auto)]
 
 mod config;

@@ -8,10 +8,10 @@ use std::alloc::{AllocError, Global};
 use std::str::from_utf8;
 use toml_parser::ParseError;
 
-/// No line is told of longer texts, so that the time a look takes is bounded.
+/// No line is reported for longer texts, so that the time of a search is bounded.
 const MAX_LOOKED: usize = 65_536;
 
-/// The line that stands behind a text, from 1.
+/// The line that comes after a text, from 1.
 pub(crate) fn line_behind(before: &[u8]) -> usize
     ensures { result ≡ line_behind before.now }
 {
@@ -38,8 +38,8 @@ fn line_in(alloc: Global, text: &str, key: &[u8]) -> Result<Option<usize>, Alloc
     }
 }
 
-/// The line, from 1, on which the first entry of a key of the whole file begins. None where there is no such entry, or
-/// the text is too long to be looked through.
+/// The line, from 1, on which the first entry of a key of the whole file begins. None where there is no such entry,
+/// or the text is too long to be searched.
 pub(crate) fn line_of(alloc: Global, text: &[u8], key: &[u8]) -> Result<Option<usize>, AllocError>
     ensures told { length text.now ≤ max_looked → IsUtf8 text.now → IfOk result (IsTold text.now key.now) }
     ensures long { max_looked < length text.now → IfOk result (λ line. line ≡ None) }

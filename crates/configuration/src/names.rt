@@ -10,7 +10,7 @@ use crate::ranges::is_like_range;
 use sip_uri::{ip4, is_host};
 use text::Text;
 
-/// The bytes of a user at most.
+/// The maximum length of a user, in bytes.
 const MAX_USER_BYTES: usize = 64;
 
 fn is_name_byte(b: u8) -> bool
@@ -39,7 +39,7 @@ pub(crate) fn are_users(users: &[Text<'static>]) -> bool
     users.iter().all(|user| is_user(user.as_bytes()))
 }
 
-/// Whether a user stands among others.
+/// Whether a user is among others.
 pub(crate) fn is_among(user: &Text<'static>, others: &[Text<'static>]) -> bool
     ensures { result ≡ list_any (λ other. pointwise nat_eq other user.now) others.now }
 {
@@ -48,7 +48,7 @@ pub(crate) fn is_among(user: &Text<'static>, others: &[Text<'static>]) -> bool
         .any(|other| other.as_bytes() == user.as_bytes())
 }
 
-/// Whether no user stands twice.
+/// Whether no user occurs twice.
 pub(crate) fn are_distinct(users: &[Text<'static>]) -> bool
     ensures { result ≡ are_distinct users.now }
 {

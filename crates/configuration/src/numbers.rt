@@ -37,14 +37,14 @@ pub(crate) fn below_2_8(number: i64) -> Option<u8>
     u8::try_from(number).ok()
 }
 
-/// A port, or a number of pairs. A number that is none reads as 0.
+/// A port, or a number of pairs. A number that is neither reads as 0.
 pub(crate) fn port_of(number: i64) -> u16
     ensures { result ≡ port_of number }
 {
     below_2_16(number).unwrap_or(0)
 }
 
-/// Seconds, minutes, hours or transactions. A number that is none reads as 0.
+/// Seconds, minutes, hours or transactions. A number that is none of these reads as 0.
 pub(crate) fn number_of(number: i64) -> u32
     ensures { result ≡ number_of number }
 {

@@ -1,4 +1,4 @@
-//! Ranges of users: `100..139` stands for each number from the first to the last.
+//! Ranges of users: `100..139` means each number from the first to the last.
 
 ghost use Rattle.std.specs.Prelude.{◌≡◌, ◌++◌, IfOk, OnOk};
 ghost use Rattle.std.specs.Option.{option_copied};
@@ -8,13 +8,13 @@ use crate::user_list::MAX_USERS;
 use std::alloc::{AllocError, Global};
 use text::{Text, Texts, cut, is_run_of_digits, number_upto};
 
-/// The digits of a number of a range, at most.
+/// The maximum number of digits of a number in a range.
 const MAX_RANGE_DIGITS: usize = 9;
 
-/// The greatest number of so many digits.
+/// The greatest number with this many digits.
 const MAX_RANGE_NUMBER: u32 = 999_999_999;
 
-/// The numbers that a range stands for, each with as many digits.
+/// The numbers of a range, each with the same number of digits.
 #[derive(Clone, Copy)]
 struct Range {
     digits: usize,
@@ -22,7 +22,7 @@ struct Range {
     last: u32,
 }
 
-/// What stands behind two dots, where the first dot of the text is one of them.
+/// What comes after two dots, of which the first is the first dot of the text.
 fn last_of(text: &[u8]) -> Option<&[u8]>
     ensures { option_copied result ≡ last_of text.now }
 {
@@ -75,7 +75,7 @@ fn range_of(text: &[u8]) -> Option<Range>
     range_between(cut(text, b'.').0, last_of(text)?)
 }
 
-/// Writes a number with so many digits behind what is there.
+/// Appends a number, written with `digits` digits.
 fn put_numeral(out: &mut Vec<u8>, digits: usize, number: u64) -> Result<(), AllocError>
     ensures { OnOk result (out.new.items ≡ out.old.items ++ numeral digits number) }
 {
@@ -95,7 +95,7 @@ fn numeral(alloc: Global, digits: usize, number: u64) -> Result<Text<'static>, A
     Ok(Text::from_vec(text))
 }
 
-/// Writes the numbers of a range behind the names that are there.
+/// Appends the numbers of a range to the names.
 fn put_range(alloc: Global, names: &mut Vec<Text<'static>>, range: Range) -> Result<(), AllocError>
     ensures { OnOk result (names.new.items ≡ names.old.items ++ names_in range) }
 {
@@ -105,7 +105,7 @@ fn put_range(alloc: Global, names: &mut Vec<Text<'static>>, range: Range) -> Res
     Ok(())
 }
 
-/// Writes the names that a text of the list stands for behind those that are there.
+/// Appends the names that a text of the list means.
 fn put_names(
     alloc: Global,
     names: &mut Vec<Text<'static>>,
@@ -132,7 +132,7 @@ fn all_names(alloc: Global, texts: &[Text<'static>]) -> Result<Texts<'static>, A
     Ok(Texts::from_vec(names))
 }
 
-/// How many names a text of the list stands for.
+/// How many names a text of the list means.
 fn count_of(text: &[u8]) -> u64
     ensures { result ≡ count_of text.now }
 {
@@ -142,7 +142,7 @@ fn count_of(text: &[u8]) -> u64
     }
 }
 
-/// Whether there is room for the names that the texts stand for. Takes no memory.
+/// Whether there is room for the names that the texts mean. Takes no memory.
 fn fits(room: u64, texts: &[Text<'static>]) -> bool
     ensures { result ≡ fits room texts.now }
 {
@@ -157,7 +157,7 @@ fn fits(room: u64, texts: &[Text<'static>]) -> bool
     true
 }
 
-/// The names that the texts stand for. Where they are more than an office may have, the texts as they stand.
+/// The names that the texts mean. If they are more than an office may have, the texts unchanged.
 pub(crate) fn expanded(alloc: Global, texts: Texts<'static>) -> Result<Texts<'static>, AllocError>
     ensures { IfOk result (λ names. names ≡ expanded texts.entry) }
 {

@@ -1,4 +1,4 @@
-//! Reading of a configuration.
+//! Reading a configuration.
 
 ghost use Rattle.std.specs.Prelude.{◌≡◌, None, Some, IfOk, IfErr, MatchResult};
 ghost use Rattle.toml.specs.View.{table_view};
@@ -63,13 +63,12 @@ fn read(alloc: Global, bytes: &[u8]) -> Result<Config, ConfigError>
     keep_valid(said_by(alloc, bytes)?)
 }
 
-/// The configuration that the text of a file says (TOML). A file that says none is refused before any rule is looked
-/// at.
+/// The configuration in the text of a file (TOML). A file that holds none is refused before any rule is checked.
 pub fn read_config(alloc: Global, bytes: &[u8]) -> Result<Config, ConfigError>
     // What is read is what the bytes say, and it keeps the rules.
     ensures found { IfOk result (λ c. ReadsConfig bytes.now c) }
     ensures kept { IfOk result (λ c. KeepsRules c) }
-    // No number and no address of it was cut to its field.
+    // No number or address of it was truncated to fit its field.
     ensures written { IfOk result (λ c. IsWrittenIn bytes.now c) }
     // A configuration that the bytes say and that keeps the rules is read, unless memory runs out.
     ensures only { (c : Config) → ReadsConfig bytes.now c → MatchResult result (λ d. d ≡ c) (λ e. e ≡ OutOfMemory) }

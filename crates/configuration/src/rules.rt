@@ -16,16 +16,16 @@ pub(crate) const MAX_RELAY_PAIRS: u16 = 2048;
 /// How many ports there are, 0 included.
 const ALL_PORTS: u32 = 65536;
 
-/// The greatest number of seconds that may be the least lifetime of a binding.
+/// The greatest allowed minimum lifetime of a binding, in seconds.
 const MAX_MIN_EXPIRES: u32 = 3600;
 
-/// The minutes without media that a call may last, at most: a day.
+/// The maximum number of minutes that a call may last without media: a day.
 const MAX_SILENT_MINUTES: u32 = 1440;
 
-/// The hours that a call may last, at most: a week.
+/// The maximum number of hours that a call may last: a week.
 const MAX_LONGEST_CALL_HOURS: u32 = 168;
 
-/// The server transactions that may stand for one source address, at most.
+/// The greatest allowed maximum of live server transactions for one source address.
 const MAX_SOURCE_SHARE: u32 = 4096;
 
 /// Whether the port is one of the relay's.
@@ -89,7 +89,7 @@ pub(crate) fn has_lifetime(config: &Config) -> bool
     1 <= config.min_expires && config.min_expires <= MAX_MIN_EXPIRES
 }
 
-/// Whether the greatest lifetime of a binding, where there is one, is no less than the least.
+/// Whether the maximum lifetime of a binding, if there is one, is no less than the minimum.
 #[tactic(auto, unfolding(crate::specs::Rules::has_longest_lifetime))]
 pub(crate) fn has_longest_lifetime(config: &Config) -> bool
     ensures { result ≡ has_longest_lifetime config.now }
@@ -110,7 +110,7 @@ pub(crate) fn has_domain(config: &Config) -> bool
     }
 }
 
-/// Whether a number, where there is one, is from 1 to the most.
+/// Whether a number, if there is one, is from 1 to the most.
 fn is_upto(most: u32, number: Option<u32>) -> bool
     ensures { result ≡ is_upto most number }
 {
@@ -120,7 +120,7 @@ fn is_upto(most: u32, number: Option<u32>) -> bool
     }
 }
 
-/// Whether the minutes without media are 1 to 1440, where there are any.
+/// Whether the minutes without media are 1 to 1440, if there are any.
 #[tactic(auto, unfolding(crate::specs::Rules::has_silence_limit))]
 pub(crate) fn has_silence_limit(config: &Config) -> bool
     ensures { result ≡ has_silence_limit config.now }
@@ -128,7 +128,7 @@ pub(crate) fn has_silence_limit(config: &Config) -> bool
     is_upto(MAX_SILENT_MINUTES, config.silent_minutes)
 }
 
-/// Whether the hours of the longest call are 1 to 168, where there are any.
+/// Whether the hours of the longest call are 1 to 168, if there are any.
 #[tactic(auto, unfolding(crate::specs::Rules::has_length_limit))]
 pub(crate) fn has_length_limit(config: &Config) -> bool
     ensures { result ≡ has_length_limit config.now }
@@ -136,7 +136,7 @@ pub(crate) fn has_length_limit(config: &Config) -> bool
     is_upto(MAX_LONGEST_CALL_HOURS, config.longest_call_hours)
 }
 
-/// Whether the transactions that stand at most for one source address are 1 to 4096, where there is such a limit.
+/// Whether the maximum number of live transactions for one source address is 1 to 4096, if there is such a limit.
 #[tactic(auto, unfolding(crate::specs::Rules::has_share))]
 pub(crate) fn has_share(config: &Config) -> bool
     ensures { result ≡ has_share config.now }
@@ -172,12 +172,13 @@ fn first_broken(config: &Config) -> Option<ConfigError>
     None
 }
 
-/// Says whether a configuration keeps the rules, and else which rule it breaks first. Takes no memory.
+/// Checks whether a configuration keeps the rules, and otherwise returns the first rule that it breaks. Takes no
+/// memory.
 #[tactic(auto, using(crate::proofs::RuleLaws::kept))]
 pub fn check(config: &Config) -> Result<(), ConfigError>
-    // What a configuration has that passes.
+    // What a configuration that passes has.
     ensures kept { OnOk result (KeepsRules config.now) }
-    // It passes where no rule is broken, and else the first that is decides.
+    // It passes if no rule is broken, and otherwise the first broken rule decides.
     ensures exact { MatchResult result (λ _. first_broken config.now ≡ None) (λ e. first_broken config.now ≡ Some e) }
 {
     match first_broken(config) {

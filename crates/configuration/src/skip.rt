@@ -1,4 +1,4 @@
-//! What stands behind a value of TOML: its text is passed as the grammar reads it, and nothing of it is kept.
+//! What comes after a value of TOML: its text is skipped as the grammar reads it, and nothing of it is kept.
 
 ghost use Rattle.std.specs.Prelude.{◌≡◌, ℕ, ◌<◌, ◌≤◌, length, IfOk};
 ghost use Rattle.toml.specs.Data.{no_items};
@@ -11,7 +11,7 @@ use std::alloc::Global;
 use toml_parser::text::{first, skip, skip_blank, skip_ws};
 use toml_parser::{ErrorKind, Key, ParseError, dotted_key, quoted, starts_string, unquoted};
 
-/// What stands behind a value with arrays and inline tables at most `depth` deep.
+/// What comes after a value with arrays and inline tables at most `depth` deep.
 #[cycle(value)]
 pub(crate) fn skip_value(alloc: Global, s: &str, depth: usize) -> Result<&str, ParseError>
     ensures value { Skips result (val depth s.now) }
@@ -31,7 +31,7 @@ pub(crate) fn skip_value(alloc: Global, s: &str, depth: usize) -> Result<&str, P
     }
 }
 
-/// What stands behind a string, a number, a date or a truth.
+/// What comes after a string, a number, a date or a truth value.
 fn skip_atom(alloc: Global, s: &str) -> Result<&str, ParseError>
     ensures value { Skips result (atom s.now) }
     ensures shorter { IfOk result (λ rest. length rest.now < length s.now) }
@@ -45,7 +45,7 @@ fn skip_atom(alloc: Global, s: &str) -> Result<&str, ParseError>
     }
 }
 
-/// What stands behind an array, from its first value on.
+/// What comes after an array, from its first value on.
 #[cycle(value)]
 fn skip_items(alloc: Global, s: &str, depth: usize) -> Result<&str, ParseError>
     ensures value { (n : ℕ) → length s.now < n → Skips result (items (val depth) n no_items s.now) }
@@ -62,7 +62,7 @@ fn skip_items(alloc: Global, s: &str, depth: usize) -> Result<&str, ParseError>
     }
 }
 
-/// What stands behind an inline table, from its first key on.
+/// What comes after an inline table, from its first key on.
 #[cycle(value)]
 fn skip_members(alloc: Global, s: &str, depth: usize) -> Result<&str, ParseError>
     ensures value { (n : ℕ) → length s.now < n → Skips result (members (val depth) n no_nodes s.now) }
@@ -80,7 +80,7 @@ fn skip_members(alloc: Global, s: &str, depth: usize) -> Result<&str, ParseError
     }
 }
 
-/// What stands behind the comma, or from the closing bracket on.
+/// What comes after the comma, or from the closing bracket on.
 fn behind_element(s: &str, closing: u8) -> Result<&str, ParseError>
     ensures value { Gives (λ rest. rest.now) result (after_element closing s.now) }
     ensures within { IfOk result (λ rest. length rest.now ≤ length s.now) }
@@ -95,7 +95,7 @@ fn behind_element(s: &str, closing: u8) -> Result<&str, ParseError>
     }
 }
 
-/// A key, `=` and the white space behind it.
+/// A key, `=` and the white space after it.
 pub(crate) fn key_equals(alloc: Global, s: &str) -> Result<(Key, &str), ParseError>
     ensures value { Reads key_view result (key_equals s.now) }
     ensures shorter { Shortens s.now result }

@@ -1,4 +1,4 @@
-//! Where the page is served that shows what the server does, as a table has it.
+//! Where the status page is served, which shows what the server does, as a table has it.
 
 ghost use Rattle.std.specs.Prelude.{◌≡◌, codes, option_and_then};
 ghost use Rattle.toml.specs.Data.{as_str, get_member};
@@ -10,7 +10,7 @@ use sip_uri::{Addr, ip4};
 use text::{cut, number_upto};
 use toml::{Table, Value};
 
-/// A port from 1 to 65535 in decimal, without a 0 at its head.
+/// A port from 1 to 65535 in decimal, without a leading 0.
 fn page_port(digits: &[u8]) -> Option<u16>
     ensures { result ≡ page_port digits.now }
 {
@@ -31,14 +31,14 @@ fn page_addr(text: &[u8]) -> Option<Addr>
     Some(Addr { ip, port })
 }
 
-/// Whether only the machine itself reaches the address.
+/// Whether only the machine itself can reach the address.
 fn is_loopback(ip: &[u8; 4]) -> bool
     ensures { result ≡ is_loopback ip.now }
 {
     ip[0] == 127
 }
 
-/// The address of a text: one of loopback, or any where the page is open.
+/// The address in a text: a loopback address, or any address if the page is open.
 pub(crate) fn page_at(is_open: bool, text: &[u8]) -> Option<Addr>
     ensures { result ≡ page_at is_open text.now }
 {
@@ -65,7 +65,7 @@ fn status_of(table: &Table, is_open: bool) -> Option<Option<Addr>>
     }
 }
 
-/// Where the page is served, if it is; none where the table says it wrongly.
+/// Where the page is served, if it is; none if the table's values for it are wrong.
 pub(crate) fn status_at(table: &Table) -> Option<Option<Addr>>
     ensures { result ≡ status_at (table_view table.now) }
 {

@@ -77,7 +77,7 @@ pub(crate) fn value_at<'t>(table: &'t Table, key: &str) -> Option<&'t Value>
     table.get(key)
 }
 
-/// Whether a key is true, which it is not where it is missing; none where the value is of another type.
+/// Whether a key is true; a missing key is not. None if the value is of another type.
 pub(crate) fn flag_at(table: &Table, key: &str) -> Option<bool>
     ensures { result ≡ flag_of (get_member key.now (table_view table.now)) }
 {

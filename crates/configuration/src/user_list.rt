@@ -6,7 +6,7 @@ ghost use Rattle.configuration.specs.Rules.{is_user_list};
 use crate::names::{are_distinct, are_users};
 use text::Text;
 
-/// So many users may register at most.
+/// How many users may register at most.
 pub(crate) const MAX_USERS: usize = 1000;
 
 /// Whether the key `users` may list these: 1 to 1000, each well formed, none twice. Takes no memory.

@@ -5,10 +5,10 @@ use crate::flaw::Flaw;
 use crate::key::Key;
 use std::fmt;
 
-/// So many bytes of a text are shown at most.
+/// How many bytes of a text are shown at most.
 const MAX_SHOWN: usize = 100;
 
-/// A text of the file: signs that could end a line, or what is told, are escaped.
+/// A text of the file: characters that could end a line, or the message, are escaped.
 #[derive(Clone, Copy)]
 struct Shown<'t>(&'t [u8]);
 
@@ -35,7 +35,7 @@ impl fmt::Display for Key {
     }
 }
 
-/// What is asked of a key.
+/// What the value of a key has to be.
 #[derive(Clone, Copy)]
 struct Asked(Key);
 
@@ -55,7 +55,7 @@ fn put_number<W: fmt::Write>(
     write!(f, "{key}: {number} {why}{}", Asked(key))
 }
 
-/// What a text of the key is not.
+/// What a text of the key fails to be.
 fn unfit(key: Key) -> &'static str {
     match key {
         Key::Ip => "is no address of a server",

@@ -7,7 +7,7 @@ use text::{Text, Texts};
 pub struct Event {
     /// The moment, in milliseconds.
     pub now: u64,
-    /// What the words that the server makes up at this event begin with.
+    /// The prefix of the words that the server makes up at this event.
     pub salt: u64,
     pub what: What,
 }
@@ -28,7 +28,7 @@ pub enum What {
     Datagram { source: Addr, bytes: Text<'static> },
     /// The moment of a timer may have come.
     Due,
-    /// No media have come for long in the call of this number.
+    /// For a long time no media have come in the call of this number.
     Silent(u64),
     /// These are the office's users from now on.
     Users(Texts<'static>),

@@ -1,5 +1,5 @@
-//! What goes into the server and what comes out of it: events, and datagrams to send. Values alone: the moments and the
-//! salts are handed in, and nothing here reads a clock, draws a number or knows of SIP.
+//! What goes into the server and what comes out of it: events, and datagrams to send. These are only values: the
+//! moments and the salts are passed in, and nothing here reads a clock, draws a number or knows of SIP.
 #![tactic(auto)]
 
 mod event;

@@ -1,4 +1,4 @@
--- The first line that ends and those behind it; steps of the loop over lines that are of their form.
+-- The first line that ends and those after it; steps of the loop over well-formed lines.
 use Rattle.std.proofs.Common.{◌≡◌, ℕ, suc, ◌+◌, ◌<◌, Bool, true, false, ◌&&◌, cond, eqb, List, [], ◌∷◌, ◌++◌, length, map, drop, get_or, Some, None, refl, sym, ap, ◌∙◌, append_assoc, arith}
 use Rattle.std.specs.Prelude.{filter}
 use Rattle.std.specs.Borrow.{Bor}
@@ -13,7 +13,7 @@ use Rattle.header_fields.proofs.LineLaws.{first_line_joined}
 
 -- ---- lines that end
 
--- the first piece, and the pieces behind it
+-- the first piece, and the pieces after it
 pieces_at : (text rest : List ℕ) → after_line_end text ≡ Some rest → between_ends text ≡ before_line_end text ∷ between_ends rest
 pieces_at [] rest h = absurd cc
 pieces_at (b ∷ []) rest h = absurd (step (eqb 13 b) h) where
@@ -61,7 +61,7 @@ rest_is_shorter text rest h =
     let whole : length text ≡ length (before_line_end text) + suc (suc (length rest)) = ap length (first_line_joined text rest (sym h)) ∙ length-append (before_line_end text) (13 ∷ 10 ∷ rest) in
     omega (arith, whole)
 
--- ---- fields of their form
+-- ---- well-formed fields
 
 one_more : (f : RawField) (fs : List RawField) (h : Header) → readable_of f ≡ Some h → map field_of (filter is_raw_field (f ∷ fs)) ≡ h ∷ map field_of (filter is_raw_field fs)
 one_more f fs h e = step (is_raw_field f) e where

@@ -44,7 +44,7 @@ lines_pass (line ∷ more) rest h =
     let parts = and_parts (is_continuing line) (list_all is_continuing more) h in
     rw (continuing_blank line parts.0) (lines_pass more rest parts.1)
 
--- lines that begin no field but those before them
+-- lines that begin no field except those before them
 lines_end : (rest : List (List ℕ)) → begins_a_field rest ≡ true → continued rest ≡ []
 lines_end [] h = refl
 lines_end (line ∷ rest) h = rw (not_true (begins_blank line) h) refl

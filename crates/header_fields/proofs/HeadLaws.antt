@@ -75,7 +75,7 @@ head_is limit text y h = step (lines_within limit text) refl h where
   step None e k = absurd cc
   step (Some x) e k = let is = lines_are limit text x e in from_lines limit text x.0 x.1 y is.0 is.1 k
 
--- ---- a text has one head at most
+-- ---- a text has at most one head
 
 pub one_head : (text : List ℕ) (hs ks : List Header) (bs cs : List ℕ) → ReadsHead text hs bs → ReadsHead text ks cs → (hs ≡ ks) × (bs ≡ cs)
 one_head text hs ks bs cs r q =

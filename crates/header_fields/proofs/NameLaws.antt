@@ -27,7 +27,7 @@ front_is_some zero line some lt = absurd (omega arith)
 front_is_some (suc n) [] some lt = absurd (omega arith)
 front_is_some (suc n) (b ∷ bs) some lt = ne_eqb (suc (length (take n bs))) 0 (λ e. omega arith)
 
--- a colon behind one token byte or more, where the line begins
+-- a colon after one or more token bytes, at the beginning of the line
 pub name_there : (line : List ℕ) (at : ℕ) → position is_out line ≡ Some at → 0 < at → get_or line at 0 ≡ 58 → name_and_value line ≡ Some (take at line, take (length line - (at + 1)) (drop (at + 1) line))
 name_there line at h some colon =
     let place : ℕ = position_or_len is_out line in

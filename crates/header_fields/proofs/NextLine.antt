@@ -44,14 +44,14 @@ line_parts (b ∷ bs) (suc n) lt clean ends =
     let next : suc n + 2 ≡ suc (n + 2) = omega arith in
     rw (not_here b bs parts.0, next) (ap (λ (t : List ℕ). b ∷ t) more.0, more.1)
 
--- where the first mark begins CR LF, the line ends there
+-- if the first mark begins CR LF, the line ends there
 pub line_found : (text : List ℕ) (at : ℕ) → at < length text → Nowhere (Passes (is_byte3 13 10 0) text) 0 at → begins_line_end (drop at text) ≡ true → Some (take at text, drop (at + 2) text) ≡ line_of text
 line_found text at lt unmarked ends =
     let clean = clean_upto text at (omega arith) unmarked in
     let parts = line_parts text at lt clean ends in
     rw (parts.1, parts.0, clean) refl
 
--- a mark that begins no CR LF stands in the line, if there is a line
+-- a mark that begins no CR LF is in the line, if there is a line
 stands_in_line : (text : List ℕ) (at : ℕ) → at < length text → is_clean (take at text) ≡ true → is_byte3 13 10 0 (slice_index text at) ≡ true → begins_line_end (drop at text) ≡ false
     → (rest : List ℕ) → after_line_end text ≡ Some rest → is_clean (before_line_end text) ≡ false
 stands_in_line [] at lt clean mark ends rest h = absurd (omega arith)
@@ -72,7 +72,7 @@ pub line_refused : (text : List ℕ) (at : ℕ) → at < length text → Nowhere
     → None ≡ line_of text
 line_refused text at lt unmarked mark ends = sym (no_line text (stands_in_line text at lt (clean_upto text at (omega arith) unmarked) mark ends))
 
--- where there is no mark, there is no line
+-- if there is no mark, there is no line
 endless : (text : List ℕ) → is_clean text ≡ true → after_line_end text ≡ None
 endless [] clean = refl
 endless (b ∷ bs) clean = let parts = and_parts (is_text_byte b) (is_clean bs) clean in rw (not_here b bs parts.0) (endless bs parts.1)

@@ -1,4 +1,4 @@
--- Raw text that goes on over lines.
+-- Raw text that is continued over lines.
 use Rattle.std.proofs.Common.{◌≡◌, ℕ, Bool, true, false, not, ◌&&◌, cond, eqb, List, [], ◌∷◌, ◌++◌, map, drop, Some, refl, sym, ap, ◌∙◌, append_assoc}
 use Rattle.std.proofs.lemmas.Bool.{eqb-true, eqb-false, ne_eqb, and_parts}
 use Rattle.text.specs.Trim.{trimmed}
@@ -42,7 +42,7 @@ behind_more ls first rest l e = rw e refl
 front_more : (b : ℕ) (ls : List (List ℕ)) (first : List ℕ) (rest : List (List ℕ)) (l : List ℕ) → ls ≡ first ∷ rest → in_front b (ls ++ l ∷ []) ≡ in_front b ls ++ l ∷ []
 front_more b ls first rest l e = rw e refl
 
--- a first line, and those behind it
+-- a first line, and those after it
 ends_at : (b : ℕ) (bs : List ℕ) → begins_line_end (b ∷ bs) ≡ true → bs ≡ 10 ∷ drop 1 bs
 ends_at b [] h = absurd (none (eqb 13 b) h) where
   none : (e : Bool) → (e && false) ≡ true → ⊥
@@ -93,7 +93,7 @@ map_more : (ls : List (List ℕ)) (l : List ℕ) → map trimmed (ls ++ l ∷ []
 map_more [] l = refl
 map_more (k ∷ ls) l = ap (λ (ps : List (List ℕ)). trimmed k ∷ ps) (map_more ls l)
 
--- what a field says whose last line is this one
+-- what a field says with this as its last line
 pub one_more : (raw line : List ℕ) → is_clean line ≡ true → unfolded_text (raw ++ 13 ∷ 10 ∷ line) ≡ glue (unfolded_text raw) (trimmed line)
 one_more raw line h =
     ap (λ (ls : List (List ℕ)). unfolded (map trimmed ls)) (more_lines raw line h) ∙ ap unfolded (map_more (raw_lines raw) line) ∙ unfolded_more (map trimmed (raw_lines raw)) (trimmed line)

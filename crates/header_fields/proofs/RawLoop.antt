@@ -50,7 +50,7 @@ glue_on value text whole h =
 
 -- ---- comparing
 
--- what is still to come, with the space before it where the value has begun
+-- what is still to come, with the space before it if the value has begun
 abbrev pub tail : Bool → List ℕ → List ℕ
 tail false more = more
 tail true [] = []

@@ -1,4 +1,4 @@
--- Texts without blanks at their ends; tokens are such.
+-- Texts without blanks at their ends; tokens are among them.
 use Rattle.std.proofs.Common.{◌≡◌, ℕ, true, false, List, [], ◌∷◌, refl, ap, ◌∙◌}
 use Rattle.std.specs.List.{list_all}
 use Rattle.std.proofs.lemmas.Bool.{and_parts}

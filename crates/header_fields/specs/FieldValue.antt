@@ -1,4 +1,4 @@
--- What the value of a header field says, wherever it stands.
+-- What the value of a header field says, wherever it is.
 use Rattle.std.specs.Prelude.{ℕ, List}
 use Rattle.header_fields.specs.Folded.{unfolded_text}
 use Rattle.header_fields.specs.declared.field_value.Form.{Form}

@@ -23,19 +23,19 @@ abbrev pub begins_blank : List ℕ → Bool
 begins_blank [] = false
 begins_blank (b ∷ bs) = is_blank b
 
--- a name: what stands before the first colon, without blanks at its end; the line begins with none
+-- a name: what comes before the first colon, without blanks at its end; the line does not begin with a blank
 abbrev pub name_of : List ℕ → List ℕ
 name_of line = trimmed (before 58 line)
 
--- what stands behind the first colon
+-- what comes after the first colon
 abbrev pub begun_value : List ℕ → List ℕ
 begun_value line = unwrap_or (after 58 line) []
 
--- a token, perhaps blanks, and a colon, with anything behind it
+-- a token, perhaps blanks, and a colon, with anything after it
 abbrev pub is_named_line : List ℕ → Bool
 is_named_line line = is_some (after 58 line) && is_run_of is_token_byte (name_of line)
 
--- the name, and what stands behind the colon
+-- the name, and what comes after the colon
 abbrev pub name_and_value : List ℕ → Option (List ℕ × List ℕ)
 name_and_value line = if is_named_line line then Some (name_of line, begun_value line) else None
 
@@ -61,7 +61,7 @@ abbrev pub continued : List (List ℕ) → List (List ℕ)
 continued [] = []
 continued (line ∷ lines) = if begins_blank line then line ∷ continued lines else []
 
--- each line that begins with no blank begins a field
+-- each line that does not begin with a blank begins a field
 abbrev pub fields_of : List (List ℕ) → List RawField
 fields_of [] = []
 fields_of (line ∷ lines) = if begins_blank line then fields_of lines else record { first = line; more = continued lines } ∷ fields_of lines
@@ -82,10 +82,10 @@ header_of f = if has_name f then Some (field_of f) else None
 abbrev pub headers_of : List (List ℕ) → Option (List Header)
 headers_of lines = if begins_a_field lines && list_all has_name (fields_of lines) then Some (map field_of (fields_of lines)) else None
 
--- the header of a field of its form
+-- the header of a well-formed field
 abbrev pub readable_of : RawField → Option Header
 readable_of f = if is_raw_field f then Some (field_of f) else None
 
--- the header fields among lines; others are passed over, with the lines that continue them
+-- the header fields among lines; others are skipped, with the lines that continue them
 abbrev pub readable_headers : List (List ℕ) → List Header
 readable_headers lines = map field_of (filter is_raw_field (fields_of lines))

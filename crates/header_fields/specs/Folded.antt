@@ -1,4 +1,4 @@
--- The raw text of a value, which may go on over lines.
+-- The raw text of a value, which may be continued over lines.
 use Rattle.std.specs.Prelude.{ℕ, List, [], ◌∷◌, drop, map, Bool, true, false, Option, Some, None, option_and_then, if◌then◌else◌}
 use Rattle.std.specs.Char.{eq_ignore_ascii_case}
 use Rattle.text.specs.Trim.{trimmed}
@@ -26,24 +26,24 @@ lines_in (Some text) = raw_lines text
 abbrev pub unfolded_text : List ℕ → List ℕ
 unfolded_text raw = unfolded (map trimmed (raw_lines raw))
 
--- what stands behind this piece, without case, if it begins the text
+-- what comes after this piece, ignoring case, if it begins the text
 abbrev pub behind_piece : List ℕ → List ℕ → Option (List ℕ)
 behind_piece [] left = Some left
 behind_piece (b ∷ bs) [] = None
 behind_piece (b ∷ bs) (c ∷ cs) = if eq_ignore_ascii_case b c then behind_piece bs cs else None
 
--- and behind the space before it, where the value has begun
+-- and after the space before it, if the value has begun
 abbrev pub behind_next : Bool → List ℕ → List ℕ → Option (List ℕ)
 behind_next begun [] left = Some left
 behind_next false (b ∷ bs) left = behind_piece (b ∷ bs) left
 behind_next true (b ∷ bs) left = option_and_then (behind_piece (b ∷ bs)) (behind_piece (32 ∷ []) left)
 
--- a value has begun behind this piece
+-- a value has begun after this piece
 abbrev pub begun_by : Bool → List ℕ → Bool
 begun_by begun [] = begun
 begun_by begun (b ∷ bs) = true
 
--- a piece, with the space before it where the value has begun
+-- a piece, with the space before it if the value has begun
 abbrev pub glued : Bool → List ℕ → List ℕ
 glued false piece = piece
 glued true [] = []

@@ -27,7 +27,7 @@ line_count reads = length (all_lines reads.fields)
 unfoldable pub head_of : ℕ → List ℕ → Option (List Header × List ℕ)
 head_of limit text = option_and_then (λ x. option_map (λ headers. (headers, x.1)) (headers_of x.0)) (lines_within limit text)
 
--- a call gave what reading gives, unless memory ran out
+-- a call returned what reading gives, unless memory ran out
 abbrev pub GivesHead : Result (List Header × Bor (List ℕ)) HeadError → Option (List Header × List ℕ) → Type 0
 GivesHead (Ok x) read = read ≡ Some (x.0, x.1.now)
 GivesHead (Err OutOfMemory) read = Unit {0}

@@ -1,4 +1,4 @@
--- Headers that are looked up by their names, without case (RFC 3261 section 7.3.1).
+-- Headers that are looked up by name, ignoring case (RFC 3261 section 7.3.1).
 use Rattle.std.specs.Prelude.{ℕ, Bool, List, map, filter, find, Option, option_map}
 use Rattle.std.specs.Str.{str_eq_ignore_ascii_case}
 use Rattle.header_fields.specs.declared.headers.Header.{Header}

@@ -9,7 +9,7 @@ use Rattle.header_fields.specs.declared.headers.Header.{Header}
 use Rattle.header_fields.specs.declared.head.HeadError.{HeadError}
 use Rattle.header_fields.specs.declared.head.HeadError.TheVariants.{OutOfMemory, Line}
 
--- the last field goes on with this piece
+-- the last field is continued by this piece
 abbrev pub gone_on : List Header → List ℕ → Option (List Header)
 gone_on [] piece = None
 gone_on (h ∷ []) piece = Some (record h { value = glue h.value piece } ∷ [])
@@ -28,7 +28,7 @@ abbrev pub OpenAt : Option (List ℕ) → List ℕ → List ℕ → Type 0
 OpenAt None field rest = Unit {0}
 OpenAt (Some value) field rest = (raw : List ℕ) × (field ≡ raw ++ 13 ∷ 10 ∷ rest) × (value ≡ unfolded_text raw)
 
--- the last field's value stands at the front of this text, and its line ends before the rest
+-- the last field's value is at the front of this text, and its line ends before the rest
 abbrev pub IsOpen : List Header → List ℕ → List ℕ → Type 0
 IsOpen hs field rest = OpenAt (last_value hs) field rest
 

@@ -22,14 +22,14 @@ pub(crate) fn begins_blank(line: &[u8]) -> bool
     }
 }
 
-/// Where the first byte stands that is in no token.
+/// The place of the first byte that is in no token.
 fn token_end(line: &[u8]) -> Option<usize>
     ensures { result ≡ position (λ b. not (is_token_byte b)) line.now }
 {
     line.iter().position(|b| !is_token_byte(*b))
 }
 
-/// The name of a field and what stands behind the colon, where the colon stands right behind the name.
+/// The name of a field and what comes after the colon, if the colon comes right after the name.
 fn name_at_colon(line: &[u8]) -> Option<(&[u8], &[u8])>
     ensures { IfSome result (λ x. name_and_value line.now ≡ Some (x.0.now, x.1.now)) }
 {
@@ -40,7 +40,7 @@ fn name_at_colon(line: &[u8]) -> Option<(&[u8], &[u8])>
     Some((&line[..at], &line[at + 1..]))
 }
 
-/// The name of a field, and what its first line has behind the colon.
+/// The name of a field, and what its first line has after the colon.
 pub(crate) fn name_and_value(line: &[u8]) -> Option<(&[u8], &[u8])>
     ensures { option_map (λ x. (x.0.now, x.1.now)) result ≡ name_and_value line.now }
 {

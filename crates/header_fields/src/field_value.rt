@@ -10,16 +10,16 @@ use std::alloc::{AllocError, Global};
 use std::marker::Model;
 use text::{Text, same_without_case};
 
-/// Where a value stands.
+/// Where a value is.
 #[derive(Drop)]
 enum Form<'a> {
     Whole(Text<'a>),
-    /// It goes on over lines, of which these are the bytes.
+    /// It is continued over lines, of which these are the bytes.
     Folded(&'a [u8]),
 }
 
-/// The value of a header field without blanks at its ends, each line end in it, and the blanks around that, read as one
-/// space (RFC 3261 section 7.3.1). Contracts see it as a list of bytes, wherever it stands.
+/// The value of a header field without blanks at its ends. Each line end in it, with the blanks around it, is read as
+/// one space (RFC 3261 section 7.3.1). Contracts see it as a list of bytes, wherever it is.
 pub struct FieldValue<'a> {
     form: Form<'a>,
 }
@@ -37,7 +37,7 @@ impl<'a> Model for FieldValue<'a> {
 }
 
 impl<'a> FieldValue<'a> {
-    /// The value that stands in one. Takes no memory.
+    /// The value that is in one piece. Takes no memory.
     pub fn whole(text: Text<'a>) -> FieldValue<'a>
         ensures { result ≡ text.entry }
     {
@@ -46,7 +46,7 @@ impl<'a> FieldValue<'a> {
         }
     }
 
-    /// The value that these lines are.
+    /// The value in these lines.
     pub(crate) fn of_raw(raw: &'a [u8]) -> FieldValue<'a>
         ensures { result ≡ unfolded_text raw.now }
     {
@@ -55,7 +55,7 @@ impl<'a> FieldValue<'a> {
         }
     }
 
-    /// The bytes in the datagram, where the value stands there in one. Takes no memory.
+    /// The bytes in the datagram, if the value is in one piece there. Takes no memory.
     pub fn in_place(&self) -> Option<&'a [u8]>
         ensures { IfSome result (λ bytes. bytes.now ≡ self.now) }
     {
@@ -65,7 +65,7 @@ impl<'a> FieldValue<'a> {
         }
     }
 
-    /// The value as one text, which is lent where it stands in the datagram in one.
+    /// The value as one text, which is lent if it is in one piece in the datagram.
     pub fn text(&self, alloc: Global) -> Result<Text<'a>, AllocError>
         ensures { IfOk result (λ t. t ≡ self.now) }
     {
@@ -77,7 +77,7 @@ impl<'a> FieldValue<'a> {
         Ok(Text::from_vec(bytes))
     }
 
-    /// Puts the value behind what is there. Where memory runs out, a part of it may have been put.
+    /// Appends the value. If memory runs out, a part of it may be written.
     pub fn put(&self, out: &mut Vec<u8>) -> Result<(), AllocError>
         ensures { OnOk result (out.new.items ≡ out.old.items ++ self.now) }
     {
@@ -87,7 +87,7 @@ impl<'a> FieldValue<'a> {
         }
     }
 
-    /// Whether it says this but for the case of ASCII letters. Takes no memory.
+    /// Whether it equals this text, ignoring the case of ASCII letters. Takes no memory.
     pub fn is_without_case(&self, other: &[u8]) -> bool
         ensures { result ≡ str_eq_ignore_ascii_case self.now other.now }
     {

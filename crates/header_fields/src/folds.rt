@@ -1,4 +1,4 @@
-//! Values that go on over lines.
+//! Values that are continued over lines.
 
 ghost use Rattle.std.specs.Prelude.{◌≡◌, ◌++◌, OnOk};
 ghost use Rattle.std.specs.Option.{option_copied};
@@ -9,7 +9,7 @@ use crate::lines::first_line;
 use std::alloc::AllocError;
 use text::trim_blanks;
 
-/// Whether a value has begun behind this piece.
+/// Whether a value has begun after this piece.
 fn begun_by(is_begun: bool, piece: &[u8]) -> bool
     ensures { result ≡ begun_by is_begun piece.now }
 {
@@ -19,7 +19,7 @@ fn begun_by(is_begun: bool, piece: &[u8]) -> bool
     }
 }
 
-/// Puts a piece behind a value, with one space between where neither is empty.
+/// Appends a piece to a value, with one space between them if neither is empty.
 fn put_piece(out: &mut Vec<u8>, is_begun: bool, piece: &[u8]) -> Result<(), AllocError>
     ensures { OnOk result (out.new.items ≡ out.old.items ++ glued is_begun piece.now) }
 {
@@ -48,7 +48,7 @@ pub(crate) fn put_unfolded(out: &mut Vec<u8>, raw: &[u8]) -> Result<(), AllocErr
     Ok(())
 }
 
-/// What stands behind this piece, without case, if it begins the text.
+/// What comes after this piece, ignoring case, if it begins the text.
 fn behind<'o>(piece: &[u8], text: &'o [u8]) -> Option<&'o [u8]>
     ensures { option_copied result ≡ behind_piece piece.now text.now }
 {
@@ -67,7 +67,7 @@ fn behind<'o>(piece: &[u8], text: &'o [u8]) -> Option<&'o [u8]>
     Some(left)
 }
 
-/// What stands behind the next piece of a value, and behind the space before it where there is one.
+/// What comes after the next piece of a value, and after the space before it if there is one.
 fn behind_next<'o>(is_begun: bool, piece: &[u8], left: &'o [u8]) -> Option<&'o [u8]>
     ensures { option_copied result ≡ behind_next is_begun piece.now left.now }
 {
@@ -80,7 +80,7 @@ fn behind_next<'o>(is_begun: bool, piece: &[u8], left: &'o [u8]) -> Option<&'o [
     behind(piece, behind(b" ", left)?)
 }
 
-/// Whether the raw text of a value says this, but for the case of ASCII letters.
+/// Whether the raw text of a value equals this text, ignoring the case of ASCII letters.
 pub(crate) fn is_unfolded_without_case(raw: &[u8], other: &[u8]) -> bool
     ensures { result ≡ str_eq_ignore_ascii_case (unfolded_text raw.now) other.now }
 {

@@ -14,8 +14,8 @@ use crate::lines::next_line;
 use std::alloc::{AllocError, AllocFailed, Global};
 use thiserror::Error;
 
-/// Room for header fields that is asked for at once: most messages have fewer, and the allocator gives so much back
-/// without joining it with what lies beside it.
+/// How much room for header fields is allocated at first: most messages have fewer, and the allocator frees a block
+/// of this size without merging it with its neighbours.
 const FIELDS_AT_FIRST: usize = 14;
 
 /// Why the header fields cannot be read.
@@ -23,7 +23,7 @@ const FIELDS_AT_FIRST: usize = 14;
 pub enum HeadError {
     #[error("out of memory")]
     OutOfMemory,
-    /// A line is not of its form, there is no empty line, or there are too many lines.
+    /// A line is malformed, there is no empty line, or there are too many lines.
     #[error("bad header line")]
     Line,
 }
@@ -64,7 +64,7 @@ fn set_last<'a>(headers: &mut Vec<Header<'a>>, raw: &'a [u8]) -> Result<(), Head
     Ok(())
 }
 
-/// What stands before the line end before this rest.
+/// What comes before the line end that precedes this rest.
 fn upto<'a>(field: &'a [u8], after: &[u8]) -> &'a [u8]
     requires { length after.now + 2 ≤ length field.now }
     ensures { result.now ≡ take (length field.now - (length after.now + 2)) field.now }
@@ -72,7 +72,7 @@ fn upto<'a>(field: &'a [u8], after: &[u8]) -> &'a [u8]
     &field[..field.len() - (after.len() + 2)]
 }
 
-/// The rest from behind the colon of its first line on.
+/// The rest, starting after the colon of its first line.
 fn behind_colon<'a>(rest: &'a [u8], line: &[u8], begun: &[u8]) -> &'a [u8]
     requires begun { length begun.now ≤ length line.now }
     requires line { length line.now ≤ length rest.now }
@@ -81,7 +81,7 @@ fn behind_colon<'a>(rest: &'a [u8], line: &[u8], begun: &[u8]) -> &'a [u8]
     &rest[line.len() - begun.len()..]
 }
 
-/// Puts the line behind the fields, and gives the text from the last field's value on.
+/// Adds the line to the fields, and returns the text from the last field's value on.
 fn add_line<'a>(
     headers: &mut Vec<Header<'a>>,
     field: &'a [u8],
@@ -110,7 +110,7 @@ fn add_line<'a>(
     Ok(behind_colon(rest, line, begun))
 }
 
-/// The header fields up to the empty line, and what stands behind it.
+/// The header fields up to the empty line, and what comes after it.
 fn read_fields<'a>(
     alloc: Global,
     limit: u32,
@@ -138,8 +138,8 @@ fn read_fields<'a>(
     Err(HeadError::Line)
 }
 
-/// The headers of a text up to its empty line, which has fewer header lines than the limit, continuing lines
-/// included, and what stands behind the empty line.
+/// The headers of a text up to its empty line, and what comes after the empty line. The text has fewer header lines
+/// than the limit, including continuation lines.
 pub fn read_head<'a>(
     alloc: Global,
     limit: u32,

@@ -23,7 +23,7 @@ fn long_of(letter: u8) -> Option<&'static [u8]>
     }
 }
 
-/// The name, or the long name that it stands for where it is a compact one, without case (RFC 3261 section 7.3.3).
+/// The name, or the long name if it is a compact one, ignoring case (RFC 3261 section 7.3.3).
 #[tactic(auto, unfolding(crate::specs::HeaderNames::long_name))]
 pub(crate) fn long_name(name: &[u8]) -> &[u8]
     ensures { result.now ≡ long_name name.now }

@@ -5,7 +5,7 @@ use std::alloc::{AllocError, Global};
 use std::marker::Model;
 use text::Text;
 
-/// A header field: its name, long where it was compact, and its value (RFC 3261 section 7.3.1).
+/// A header field: its long name, even if it was compact, and its value (RFC 3261 section 7.3.1).
 #[derive(Drop)]
 pub struct Header<'a> {
     pub name: Text<'a>,
@@ -76,7 +76,7 @@ impl<'a> Headers<'a> {
         &self.entries
     }
 
-    /// Puts a header behind the others.
+    /// Appends a header.
     pub fn push(&mut self, header: Header<'a>) -> Result<(), AllocError>
         ensures unchanged { OnErr result (self.new ≡ self.old) }
         ensures put { OnOk result (self.new ≡ self.old ++ header.entry ∷ []) }
@@ -84,7 +84,7 @@ impl<'a> Headers<'a> {
         Ok(self.entries.push(header)?)
     }
 
-    /// Puts a header of this name and value, as they are, behind the others.
+    /// Appends a header with this name and value, as they are.
     pub fn add(&mut self, alloc: Global, name: &[u8], value: &[u8]) -> Result<(), AllocError>
         ensures unchanged { OnErr result (self.new ≡ self.old) }
         ensures put { OnOk result (self.new ≡ self.old ++ named name.now value.now ∷ []) }

@@ -1,6 +1,6 @@
-//! The lines of a message and its header fields (RFC 3261 sections 7 and 7.3.1). Reading is pinned on every text:
-//! header fields are found exactly where the lines are such. Nothing here knows of start lines, or of what the value of
-//! a field means.
+//! The lines of a message and its header fields (RFC 3261 sections 7 and 7.3.1). Reading is specified for every text:
+//! header fields are found exactly if the lines are well formed. Nothing here knows of start lines, or of what the
+//! value of a field means.
 #![tactic(auto)]
 
 mod field;

@@ -27,7 +27,7 @@ fn line_end(text: &[u8]) -> Option<usize>
     None
 }
 
-/// What stands before the first CR LF pair, all where there is none, and what stands behind it. Takes no memory.
+/// What comes before the first CR LF pair (everything if there is none), and what comes after it. Takes no memory.
 #[tactic(auto, using(crate::proofs::LineLaws::line_at, crate::proofs::LineLaws::rest_at, crate::proofs::LineLaws::no_end_line, crate::proofs::LineLaws::no_end_rest))]
 pub fn first_line(text: &[u8]) -> (&[u8], Option<&[u8]>)
     ensures line { result.0.now ≡ before_line_end text.now }
@@ -52,8 +52,8 @@ pub fn is_clean(text: &[u8]) -> bool
     text.iter().all(|b| is_text_byte(*b))
 }
 
-/// The first line, and what stands behind its end, where the line is clean: then its end is the first CR, LF or NUL.
-/// Takes no memory.
+/// The first line, and what comes after its end, if the line is clean: then its end is the first CR, LF or NUL. Takes
+/// no memory.
 pub fn next_line(text: &[u8]) -> Option<(&[u8], &[u8])>
     ensures { option_map (λ x. (x.0.now, x.1.now)) result ≡ line_of text.now }
 {
@@ -64,7 +64,7 @@ pub fn next_line(text: &[u8]) -> Option<(&[u8], &[u8])>
     Some((&text[..at], &text[at + 2..]))
 }
 
-/// The first line, if it ends in CR LF, and what stands behind it.
+/// The first line, if it ends in CR LF, and what comes after it.
 #[tactic(auto, using(crate::proofs::EndedLaws::line_ended, crate::proofs::EndedLaws::line_not_ended, crate::proofs::EndedLaws::rest_is_shorter))]
 fn ended_line(text: &[u8]) -> Option<(&[u8], &[u8])>
     ensures line { IfSome result (λ x. ended_lines text.now ≡ upto_empty x.0.now (ended_lines x.1.now)) }

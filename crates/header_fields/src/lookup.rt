@@ -1,4 +1,4 @@
-//! Headers that are looked up by their names, without case (RFC 3261 section 7.3.1).
+//! Headers that are looked up by name, ignoring case (RFC 3261 section 7.3.1).
 
 ghost use Rattle.std.specs.Prelude.{◌≡◌, map, IfOk};
 ghost use Rattle.std.specs.Option.{option_copied};

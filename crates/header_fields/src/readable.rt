@@ -1,4 +1,4 @@
-//! Header fields of a text that need not be a message's: those that are of their form.
+//! The well-formed header fields of a text that need not be a message.
 
 ghost use Rattle.std.specs.Prelude.{◌≡◌, ◌∷◌, map, IfOk, OnOk};
 ghost use Rattle.std.specs.List.{list_all};
@@ -45,7 +45,7 @@ fn all_continuing(lines: &[&[u8]]) -> bool
     true
 }
 
-/// Puts a piece behind a value, with one space between where neither is empty.
+/// Appends a piece to a value, with one space between them if neither is empty.
 fn glue(value: &mut Vec<u8>, piece: &[u8]) -> Result<(), AllocError>
     ensures { OnOk result (value.new.items ≡ glue value.old.items piece.now) }
 {
@@ -70,7 +70,7 @@ fn unfold(alloc: Global, begun: &[u8], more: &[&[u8]]) -> Result<Text<'static>, 
     Ok(Text::from_vec(value))
 }
 
-/// The header of this name, of what its first line has behind the colon, and of the lines that continue it.
+/// The header with this name, what its first line has after the colon, and the lines that continue it.
 fn made<'a>(
     alloc: Global,
     name: &'a [u8],
@@ -85,7 +85,7 @@ fn made<'a>(
     })
 }
 
-/// The header of a first line and of the lines that continue it, if they are of their form.
+/// The header of a first line and of the lines that continue it, if they are well formed.
 #[tactic(auto, unfolding(crate::specs::Fields::field_of, crate::specs::Fields::is_raw_field))]
 fn readable<'a>(
     alloc: Global,
@@ -103,8 +103,7 @@ fn readable<'a>(
     }
 }
 
-/// The headers of the fields that are of their form, in order; others are passed over, with the lines that continue
-/// them.
+/// The headers of the well-formed fields, in order; others are skipped, with the lines that continue them.
 pub fn readable_headers<'a>(
     alloc: Global,
     lines: &[&'a [u8]],

@@ -1,4 +1,4 @@
--- The numbers of those in a list that pass a test: before and behind a change of one place, and what is found among
+-- The numbers of those in a list that pass a test: before and after a change of one place, and what is found among
 -- them.
 use Rattle.std.proofs.Common.{◌≡◌, ℕ, ◌+◌, ◌<◌, ◌≤◌, Bool, true, false, not, ◌||◌, cond, ltb, eqb, List, [], ◌∷◌, length, map, get_or, set, Some, None, option_map, count_by, find, position, slice_get, refl, sym, ap, ◌∙◌, inl, inr, arith}
 use Prim.Native.Nat.{suc, zero}
@@ -11,7 +11,7 @@ use Rattle.index.specs.declared.index.Entry.{Entry}
 use Rattle.index.specs.Numbers.{put_number, remove_number}
 use Rattle.index.specs.Passing.{numbers_from}
 
--- ---- a number more, or one fewer
+-- ---- one number more, or one fewer
 
 pub put_length : (ns : List ℕ) (n : ℕ) → length (put_number ns n) ≡ suc (length ns)
 put_length [] n = refl
@@ -73,7 +73,7 @@ module _ {X : Type 0} (p : X → Bool) where
         | false ↦ put_lower xs k (1 + n) (omega arith)
       ]
 
-  -- a place that passes before and behind a change, or neither, changes no number
+  -- a place that passes both before and after a change, or neither, changes no number
   pub set_same : (xs : List X) (i n : ℕ) (y d : X) → p y ≡ p (get_or xs i d) → numbers_from p n (set xs i y) ≡ numbers_from p n xs
   set_same [] i n y d e = refl
   set_same (x ∷ xs) zero n y d e = rw e refl
@@ -98,7 +98,7 @@ module _ {X : Type 0} (p : X → Bool) where
         | false ↦ rest
       ]
 
-  -- one that passes no longer
+  -- one that no longer passes
   pub set_remove : (xs : List X) (i n k : ℕ) (y d : X) → k ≡ n + i → i < length xs → p (get_or xs i d) ≡ true → p y ≡ false
       → numbers_from p n (set xs i y) ≡ remove_number (numbers_from p n xs) k
   set_remove [] i n k y d e less was is = absurd (omega arith)
@@ -126,7 +126,7 @@ module _ {X : Type 0} (p : X → Bool) where
   pub numbers_few : (xs : List X) (n : ℕ) → length (numbers_from p n xs) ≤ length xs
   numbers_few xs n = rw (numbers_many xs n) (count_by-le-length p xs)
 
-  -- where one passes no longer, they are one fewer
+  -- if one no longer passes, they are one fewer
   pub set_fewer : (xs : List X) (i n : ℕ) (y d : X) → i < length xs → p (get_or xs i d) ≡ true → p y ≡ false
       → length (numbers_from p n xs) ≡ suc (length (numbers_from p n (set xs i y)))
   set_fewer xs i n y d less was is =
@@ -181,7 +181,7 @@ module _ {X : Type 0} (p : X → Bool) where
         ] refl
       ] refl
 
-  -- who passes stands in a list of entries by their numbers
+  -- one that passes is found in a list of entries by their numbers
   pub first_found : (f : X → Bool) (g : ℕ → Bool) → ((x : X) → f x ≡ true → p x ≡ true) → (d : X) (xs : List X) (es : List Entry) → ((i : ℕ) → i < length xs → g i ≡ f (get_or xs i d))
       → map (λ e. e.number) es ≡ numbers_from p 0 xs → option_map (λ e. e.number) (find (λ e. g e.number) es) ≡ position f xs
   first_found f g has d xs es at is =

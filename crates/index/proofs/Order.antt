@@ -2,7 +2,7 @@
 use Rattle.std.proofs.Common.{◌≡◌, ℕ, ◌<◌, ◌≤◌, Bool, true, false, ◌&&◌, ◌||◌, ltb, eqb, ◌⊎◌, arith}
 use Rattle.std.proofs.lemmas.Bool.Decides.{nat_tests}
 
--- the entry of print a and number b stands before p and n
+-- the entry of print a and number b comes before p and n
 abbrev pub before : ℕ → ℕ → ℕ → ℕ → Bool
 before a b p n = ltb a p || (eqb a p && ltb b n)
 
@@ -24,10 +24,10 @@ was_before a b p n h = grind (arith, nat_tests)
 pub was_behind : (a b p n : ℕ) → before a b p n ≡ false → (p < a) ⊎ ((a ≡ p) × (n ≤ b))
 was_behind a b p n h = grind (arith, nat_tests)
 
--- what does not stand before one that does not stand before p and n does not either
+-- what does not come before one that does not come before p and n does not come before them either
 pub behind_behind : (a b c d p n : ℕ) → before a b p n ≡ false → before c d a b ≡ false → before c d p n ≡ false
 behind_behind a b c d p n first second = grind (arith, nat_tests)
 
--- what does not stand before one that stands before the place of another: the order is total
+-- what comes before another has that one not before it: the order is total
 pub before_not : (a b p n : ℕ) → before a b p n ≡ true → before p n a b ≡ false
 before_not a b p n h = grind (arith, nat_tests)

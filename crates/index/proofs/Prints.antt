@@ -107,7 +107,7 @@ run_is p (e ∷ es) h low =
 
 -- ---- a number is put
 
--- the first of the numbers of a print in a list whose first entry does not stand before that print and number
+-- the first of the numbers of a print in a list whose first entry does not come before that print and number
 leads : (e : Entry) (es : List Entry) (p n : ℕ) → EntriesRise (e ∷ es) → is_before e p n ≡ false
     → n ∷ numbers_of (e ∷ es) p ≡ put_number (numbers_of (e ∷ es) p) n
 leads e es p n h later =
@@ -155,7 +155,7 @@ put_numbers es entry q h =
 
 -- ---- a number is removed
 
--- behind an entry of the print with a greater number, or of a greater print, the number is not
+-- after an entry of the print with a greater number, or of a greater print, the number is not there
 absent_behind : (e : Entry) (es : List Entry) (p n : ℕ) → e.print ≡ p → n < e.number → AllByRecursion (λ other. is_before other e.print e.number ≡ false) es → EntriesRise es
     → remove_number (numbers_of es p) n ≡ numbers_of es p
 absent_behind e [] p n same less h rise = refl
@@ -233,7 +233,7 @@ remove_numbers es entry q h =
       | false ↦ λ e. remove_other es entry q (ne_eqb entry.print q (λ same. eqb-false q entry.print e (sym same)))
     ] refl
 
--- who was at its place is one number less
+-- without what was at its place there is one number less
 pub one_less : (es : List Entry) (entry : Entry) → stands_in (slice_get es (place_of es entry.print entry.number)) entry ≡ true
     → length (numbers_of es entry.print) ≡ suc (length (numbers_of (remove_entry es entry) entry.print))
 one_less [] entry h = absurd (true≢false (sym h))

@@ -1,4 +1,4 @@
--- Numbers under prints in buckets, so that a change of one moves those of its bucket alone.
+-- Numbers under prints in buckets, so that a change of one moves only those of its bucket.
 use Rattle.std.specs.Prelude.{ℕ, ◌%◌, ◌<◌, ◌≤◌, List, [], length, slice_index_or}
 use Rattle.index.specs.Entries.{numbers_of}
 use Rattle.index.specs.Numbers.{Indexed}
@@ -24,6 +24,6 @@ bucket_at buckets place = slice_index_or buckets place no_bucket
 abbrev pub numbers_in : List Indexed → ℕ → List ℕ
 numbers_in buckets print = numbers_of (bucket_at buckets (print % bucket_count)).entries print
 
--- each bucket takes so many numbers more
+-- each bucket takes at least this many more numbers
 abbrev pub HaveRoom : ℕ → List Indexed → Type 0
 HaveRoom room buckets = (place : ℕ) → place < length buckets → room ≤ (bucket_at buckets place).room

@@ -3,16 +3,16 @@ use Rattle.std.specs.Prelude.{◌≡◌, ℕ, Bool, false, ◌&&◌, ◌||◌, L
 use Rattle.std.specs.List.{AllByRecursion, prefix_len}
 use Rattle.index.specs.declared.index.Entry.{Entry}
 
--- the entry stands before one with this print and number
+-- the entry comes before one with this print and number
 abbrev pub is_before : Entry → ℕ → ℕ → Bool
 is_before e print number = nat_lt e.print print || (nat_eq e.print print && nat_lt e.number number)
 
--- none stands before one that is in front of it
+-- no entry comes before one that precedes it in the list
 abbrev pub EntriesRise : List Entry → Type 0
 EntriesRise [] = Unit {0}
 EntriesRise (e ∷ es) = AllByRecursion (λ other. is_before other e.print e.number ≡ false) es × EntriesRise es
 
--- how many entries stand before one with this print and number
+-- how many entries come before one with this print and number
 abbrev pub place_of : List Entry → ℕ → ℕ → ℕ
 place_of es print number = prefix_len (λ e. is_before e print number) es
 
@@ -24,7 +24,7 @@ of_print es print = filter (λ e. nat_eq e.print print) es
 abbrev pub numbers_of : List Entry → ℕ → List ℕ
 numbers_of es print = map (λ e. e.number) (of_print es print)
 
--- an entry goes before the first that does not stand before it
+-- an entry goes before the first that does not come before it
 abbrev pub put_entry : List Entry → Entry → List Entry
 put_entry [] entry = entry ∷ []
 put_entry (e ∷ es) entry = if is_before e entry.print entry.number then e ∷ put_entry es entry else entry ∷ e ∷ es
@@ -37,7 +37,7 @@ abbrev pub stands_in : Option Entry → Entry → Bool
 stands_in None entry = false
 stands_in (Some e) entry = same_entry e entry
 
--- the entry goes from its place, where it is there
+-- the entry is removed from its place, if it is there
 abbrev pub remove_entry : List Entry → Entry → List Entry
 remove_entry [] entry = []
 remove_entry (e ∷ es) entry =

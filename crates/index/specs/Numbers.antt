@@ -1,5 +1,5 @@
--- Numbers under prints. A print is a number that is made of what is looked for: equal things have equal prints, and
--- what has another print is not looked at.
+-- Numbers under prints. A print is a number that is made from what is looked for: equal things have equal prints, and
+-- what has another print is not compared.
 use Rattle.std.specs.Prelude.{ℕ, List, [], ◌∷◌, nat_lt, nat_eq, if◌then◌else◌}
 use Rattle.index.specs.declared.index.Entry.{Entry}
 
@@ -13,7 +13,7 @@ abbrev pub put_number : List ℕ → ℕ → List ℕ
 put_number [] number = number ∷ []
 put_number (n ∷ ns) number = if nat_lt n number then n ∷ put_number ns number else number ∷ n ∷ ns
 
--- a number is taken away once, where it stands
+-- a number is removed once, if it is there
 abbrev pub remove_number : List ℕ → ℕ → List ℕ
 remove_number [] number = []
 remove_number (n ∷ ns) number = if nat_eq n number then ns else n ∷ remove_number ns number

@@ -12,15 +12,15 @@ use std::marker::Model;
 /// How many buckets there are, once there is room for a number.
 const BUCKETS: usize = 64;
 
-/// For so many numbers each bucket makes room, where it is asked for room at all: so it is seldom asked.
+/// For how many numbers each bucket makes room when it makes room at all, so that this is seldom needed.
 const SPARE: usize = 32;
 
-/// Numbers under prints, as an `Index` has them. They lie in buckets by their prints, so that what a change moves is
-/// one bucket's share of all that stand. Room that a number took is not given back where the number is removed.
+/// Numbers under prints, as an `Index` has them. They are in buckets by their prints, so that a change moves only the
+/// numbers of one bucket. Room that a number took is not released when the number is removed.
 #[derive(Drop)]
 pub struct Buckets {
     buckets: Vec<Index>,
-    /// How many numbers more each bucket takes without memory, at least.
+    /// The least number of further numbers that each bucket takes without memory.
     room: usize,
 }
 
@@ -36,7 +36,7 @@ impl Model for Buckets {
 }
 
 impl Buckets {
-    /// No numbers. Takes no memory.
+    /// An index without numbers. Takes no memory.
     pub fn new(alloc: Global) -> Self
         ensures { result.buckets ≡ [] }
     {
@@ -57,7 +57,7 @@ impl Buckets {
         }
     }
 
-    /// Makes room for `n` numbers more, or is refused for want of memory. It changes no number.
+    /// Makes room for `n` more numbers, or fails because memory ran out. It changes no number.
     pub fn reserve(&mut self, n: usize) -> Result<(), AllocError>
         ensures numbers { (print : ℕ) → numbers_in self.new.buckets print ≡ numbers_in self.old.buckets print }
         ensures ok { OnOk result (n ≤ self.new.room) }
@@ -82,7 +82,7 @@ impl Buckets {
         Ok(())
     }
 
-    /// Puts a number under a print. There is room for it, so that this takes no memory.
+    /// Puts a number under a print. There is room for it, so this takes no memory.
     pub fn put(&mut self, print: u64, number: usize)
         requires { 0 < self.old.room }
         ensures numbers { (other : ℕ) → numbers_in self.new.buckets other ≡
@@ -93,7 +93,7 @@ impl Buckets {
         self.room -= 1;
     }
 
-    /// Removes a number from under a print, where it is. Takes no memory.
+    /// Removes a number from under a print, if it is there. Takes no memory.
     pub fn remove(&mut self, print: u64, number: usize)
         ensures numbers { (other : ℕ) → numbers_in self.new.buckets other ≡
             (if nat_eq other print then remove_number (numbers_in self.old.buckets print) number else numbers_in self.old.buckets other) }
@@ -129,7 +129,7 @@ fn make_buckets(buckets: &mut Vec<Index>) -> Result<(), AllocError>
     Ok(())
 }
 
-// Makes room for `n` numbers more in each bucket.
+// Makes room for `n` more numbers in each bucket.
 fn reserve_each(buckets: &mut Vec<Index>, n: usize) -> Result<(), AllocError>
     ensures entries { (place : ℕ) → (bucket_at buckets.new.items place).entries ≡ (bucket_at buckets.old.items place).entries }
     ensures len { length buckets.new.items ≡ length buckets.old.items }

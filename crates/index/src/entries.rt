@@ -13,7 +13,7 @@ fn is_before(entry: &Entry, print: u64, number: usize) -> bool
     entry.print < print || (entry.print == print && entry.number < number)
 }
 
-// How many entries stand before one with this print and number.
+// How many entries come before one with this print and number.
 fn place_of(entries: &[Entry], print: u64, number: usize) -> usize
     requires { EntriesRise entries.now }
     ensures bound { result ≤ length entries.now }
@@ -30,7 +30,7 @@ fn rest_from(entries: &[Entry], place: usize) -> &[Entry]
     &entries[place..]
 }
 
-// The entries of a print, of entries that have no lower one.
+// The entries of a print, among entries that have no lower one.
 fn run_of(entries: &[Entry], print: u64) -> &[Entry]
     requires rise { EntriesRise entries.now }
     requires not_below { AllByRecursion (λ e. nat_lt e.print print ≡ false) entries.now }
@@ -47,7 +47,7 @@ pub(crate) fn of_print(entries: &[Entry], print: u64) -> &[Entry]
     run_of(rest_from(entries, place_of(entries, print, 0)), print)
 }
 
-/// Puts an entry before the first that does not stand before it.
+/// Puts an entry before the first that does not come before it.
 pub(crate) fn put(entries: &mut Vec<Entry>, entry: Entry)
     requires rise { EntriesRise entries.old.items }
     requires room { vec_len entries.old < vec_capacity entries.old }
@@ -67,11 +67,11 @@ fn stands_at(entries: &[Entry], place: usize, entry: Entry) -> bool
     entries.get(place) == Some(&entry)
 }
 
-/// Removes an entry, where it is there.
+/// Removes an entry, if it is there.
 pub(crate) fn remove(entries: &mut Vec<Entry>, entry: Entry)
     requires { EntriesRise entries.old.items }
     ensures others { entries.new.items ≡ remove_entry entries.old.items entry }
-    // One less where it was there, in all and of its print.
+    // One less if it was there, in all and for its print.
     ensures len { vec_len entries.new + length (numbers_of entries.old.items entry.print)
         ≡ vec_len entries.old + length (numbers_of entries.new.items entry.print) }
     ensures capacity { vec_capacity entries.new ≡ vec_capacity entries.old }

@@ -15,7 +15,7 @@ pub struct Entry {
     pub number: usize,
 }
 
-/// Numbers under prints: who looks for something makes a print of it, and looks at the numbers of that print alone.
+/// Numbers under prints: to look something up, make a print of it and check only the numbers under that print.
 #[derive(Drop)]
 pub struct Index {
     entries: Vec<Entry>,
@@ -55,7 +55,7 @@ impl Index {
         entries::of_print(&self.entries, print)
     }
 
-    /// Makes room for `n` numbers more, or is refused for want of memory. It changes no number.
+    /// Makes room for `n` more numbers, or fails because memory ran out. It changes no number.
     pub fn reserve(&mut self, n: usize) -> Result<(), AllocError>
         ensures entries { self.new.entries ≡ self.old.entries }
         ensures ok { OnOk result (n ≤ self.new.room) }
@@ -65,7 +65,7 @@ impl Index {
         self.entries.reserve(n)
     }
 
-    /// Puts a number under a print. There is room for it, so that this takes no memory.
+    /// Puts a number under a print. There is room for it, so this takes no memory.
     pub fn put(&mut self, print: u64, number: usize)
         requires { 0 < self.old.room }
         ensures numbers { (other : ℕ) → numbers_of self.new.entries other ≡
@@ -75,7 +75,7 @@ impl Index {
         entries::put(&mut self.entries, Entry { print, number });
     }
 
-    /// Removes a number from under a print, where it is. Takes no memory.
+    /// Removes a number from under a print, if it is there. Takes no memory.
     pub fn remove(&mut self, print: u64, number: usize)
         ensures numbers { (other : ℕ) → numbers_of self.new.entries other ≡
             (if nat_eq other print then remove_number (numbers_of self.old.entries print) number else numbers_of self.old.entries other) }

@@ -1,4 +1,4 @@
-//! Numbers under what they are looked up by: where those of a print are, is found by halving.
+//! Numbers under what they are looked up by: those of a print are found by binary search.
 #![tactic(auto)]
 
 mod buckets;

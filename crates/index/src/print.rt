@@ -1,11 +1,11 @@
-//! A number for what is looked up by a text: what has another one is passed by without a look at its text.
+//! A number for what is looked up by a text: anything with another number is skipped without comparing texts.
 
 ghost use Rattle.std.specs.Prelude.{◌≡◌};
 ghost use Rattle.index.specs.PrintKeys.{print_of};
 
 use core::hash::{Hasher, keyed_hasher};
 
-/// The key of prints. Whoever sends texts and doesn't know it can't choose many of one print.
+/// The key of prints. Anyone who sends texts without knowing it can't choose many with the same print.
 #[derive(Clone, Copy)]
 pub struct PrintKey {
     pub first: u64,
@@ -13,7 +13,7 @@ pub struct PrintKey {
 }
 
 impl PrintKey {
-    /// A key that everybody knows, for scripts: nobody writes one while it is played.
+    /// A key that everybody knows, for scripts: nobody writes one while it is running.
     pub const FIXED: PrintKey = PrintKey {
         first: 0,
         second: 0,

@@ -17,7 +17,7 @@ place_behind g (suc n) = ap (λ (x : ℕ). next_place (next_place x)) (place_beh
 apart : (x m n : ℕ) → m < n → n < 2 ^ 67 → (x + 2 * m) % 2 ^ 68 ≢ (x + 2 * n) % 2 ^ 68
 apart x m n less few = λ same. omega (arith, less, few, same)
 
--- the first place is in the stream, or behind all of it
+-- the first place is not reached again within 2^67 salts
 first_apart : (x n : ℕ) → 0 < n → n < 2 ^ 67 → x ≢ (x + 2 * n) % 2 ^ 68
 first_apart x n less few = λ same. omega (arith, less, few, same)
 

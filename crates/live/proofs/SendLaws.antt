@@ -1,4 +1,4 @@
--- Datagrams that are sent one behind the other.
+-- Datagrams that are sent one after the other.
 use Rattle.std.proofs.Common.{◌≡◌, ◌∙◌, ℕ, ◌+◌, true, false, List, [], ◌∷◌, ◌++◌, inl, inr, refl, sym, ap, subst, append_assoc, arith}
 use Rattle.std.proofs.lemmas.List.{append-nil}
 use Rattle.events.specs.declared.sent.Sent.{Sent}

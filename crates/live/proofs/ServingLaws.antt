@@ -18,7 +18,7 @@ use Rattle.live.specs.declared.streaks.End.{End}
 use Rattle.live.specs.declared.streaks.End.TheVariants.{Turns, Stopped, Socket, Memory}
 use Rattle.live.specs.declared.trouble.Trouble.{Trouble}
 
--- these rounds were made, none of them was the last, and so many are left
+-- these rounds were made, none of them was the last, and `left` are left
 pub record Going (a b : Course) (turns left : Option ℕ) (streaks : Streaks) : Type 0 where
   pub rounds : List RoundAt
   pub made : Made a.salts a.state rounds b.state
@@ -68,7 +68,7 @@ pub made_all : (a b : Course) (turns left : Option ℕ) (streaks : Streaks) → 
 made_all a b turns left streaks h e =
     record { rounds = h.rounds; made = h.made; moments = h.moments; handed = h.handed; salts = h.salts; told_there = h.told_there; ends = (none_left turns left (length h.rounds) h.are_left e, h.go_on) }
 
--- what ends the signalling behind a round is a socket or memory
+-- what ends the signalling after a round is a socket or memory
 end_cases : (b c d : Bool) (end : End) → cond b (Some Memory) (cond c (Some Socket) (cond d (Some Memory) None)) ≡ Some end → (end ≡ Socket) ⊎ (end ≡ Memory)
 end_cases true c d end e = inr (cc)
 end_cases false true d end e = inl (cc)
@@ -180,7 +180,7 @@ one_of (inr h) not_socket not_memory = not_memory h
 neither : (b c d : Bool) (end : End) → cond b (Some Memory) (cond c (Some Socket) (cond d (Some Memory) None)) ≡ Some end → (end ≡ Socket → ⊥) → (end ≡ Memory → ⊥) → ⊥
 neither b c d end e not_socket not_memory = one_of (end_cases b c d end e) not_socket not_memory
 
--- it lives on behind a round that left the board with what the agent has; memory ended it, and it lived until its last
+-- it lives on after a round that left the board with what the agent has; if memory ended it, it lived until its last
 -- round
 pub lives_at : (laws : StandLaws) (a b c : Course) (turns left : Option ℕ) (streaks after : Streaks) (round : Round) (end : End) → Going a b turns left streaks → Leads b c round → end_after after round ≡ Some end
     → HasTable b.state.lists b.state.agent → TableAt c.state.lists c.state.agent end → LivesUntil a.state c.state end

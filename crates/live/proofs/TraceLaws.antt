@@ -32,7 +32,7 @@ use Rattle.live.specs.declared.round.Round.TheVariants.{Fired, Heard, Took, Wait
 use Rattle.live.specs.declared.turn.Turned.{Turned}
 use Rattle.live.specs.declared.turn.Turned.TheVariants.{Done, Lost, Behind}
 
--- ---- one happening behind others
+-- ---- one happening after others
 
 first_more : {T : Type 0} (x : Option T) (xs ys : List T) → with_first x (xs ++ ys) ≡ with_first x xs ++ ys
 first_more None xs ys = refl
@@ -172,9 +172,9 @@ round_more now salt (Some news) a b c Failed h k front = absurd k
 pub none_went : (a : State) → Went a a
 none_went a = record { happenings = []; happens = none_happened a }
 
--- ---- what holds of an agent that stands
+-- ---- what the agent's invariant gives
 
--- the laws of agents that stand after a trace
+-- the laws of agents whose invariant holds after a trace
 pub record StandLaws : Type 0 where
   pub entries : (s : Contents) (entries : List Entry) (t rest : List Datagram) (k : ℕ) → AgentStands s t k → AreEntries s entries → All EntersFromSource entries → AreTrace k entries rest
       → AgentStands (after_entries s entries) (t ++ rest) (k + length entries)

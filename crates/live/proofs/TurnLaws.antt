@@ -1,4 +1,4 @@
--- A turn, by what the wire was asked to send alone.
+-- A turn, by only what the wire was asked to send.
 use Rattle.std.proofs.Common.{◌≡◌, ◌∙◌, subst}
 use Rattle.events.specs.declared.event.Event.{Event}
 use Rattle.event_rows.specs.Rows.{row}

@@ -10,7 +10,7 @@ pub record Arrival : Type 0 where
   pub source : Addr
   pub bytes : List ℕ
 
--- one byte more than a datagram may have: a longer one is seen to be too long
+-- one byte more than a datagram may have, so that a longer one is seen to be too long
 abbrev pub buffer_length : ℕ
 buffer_length = 16385
 

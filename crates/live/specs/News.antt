@@ -6,12 +6,12 @@ use Rattle.live.specs.declared.news.News.{News}
 use Rattle.live.specs.declared.news.News.TheVariants.{Silent, Users}
 use Rattle.live.specs.declared.news_log.NewsLog.{NewsLog}
 
--- what happens by them
+-- the event that it becomes
 abbrev pub what_of : News → What
 what_of (Silent number) = whats.Silent number
 what_of (Users users) = whats.Users users
 
--- those that were handed in, once a round had these, if it had any
+-- the news handed in so far, after a round that had this news, if it had any
 abbrev pub with_news : List News → Option News → List News
 with_news handed None = handed
 with_news handed (Some news) = handed ++ news ∷ []

@@ -1,4 +1,5 @@
--- What a round of the signalling does: it tells the agent news, or fires what is due, or takes a datagram, or waits.
+-- What a round of the signalling does: it passes news to the agent, or fires what is due, or takes a datagram, or
+-- waits.
 use Rattle.std.specs.Prelude.{◌≡◌, ℕ, ◌+◌, ◌-◌, ◌^◌, Bool, true, false, nat_le, min, [], ◌∷◌, ◌++◌, Option, Some, None, ◌⊎◌, if◌then◌else◌}
 use Rattle.relay.specs.Lists.{Lists}
 use Rattle.events.specs.declared.event.Event.{Event}
@@ -28,7 +29,7 @@ abbrev pub is_due : ℕ → Option ℕ → Bool
 is_due now None = false
 is_due now (Some at) = nat_le at now
 
--- so long is waited at most
+-- how long is waited at most
 abbrev pub max_wait : ℕ
 max_wait = 100
 
@@ -66,7 +67,7 @@ pub record Fires (now salt : ℕ) (a b : State) (turned : Turned) : Type 0 where
   pub wire : OnlySends a.wire b.wire
   pub turns : Turns (event now salt Due) a b turned
 
--- the agent is told these news, and no datagram is asked for
+-- the agent takes this news, and no datagram is asked for
 pub record Hears (now salt : ℕ) (news : News) (a b : State) (turned : Turned) : Type 0 where
   pub wire : OnlySends a.wire b.wire
   pub turns : Turns (event now salt (what_of news)) a b turned
@@ -113,7 +114,7 @@ abbrev pub Rounds : ℕ → ℕ → Option News → State → State → Round �
 Rounds now salt None a b round = GoesOn now salt a b round
 Rounds now salt (Some news) a b round = HearsIn now salt news a b round
 
--- the stream behind a round: each event has a salt of its own, also one that is lost
+-- the stream after a round: each event has a salt of its own, even one that is lost
 abbrev pub salts_after : ChaCha → Round → ChaCha
 salts_after g (Fired turned) = after_salt g
 salts_after g (Heard turned) = after_salt g
@@ -123,7 +124,7 @@ salts_after g Failed = g
 
 -- ---- what ends the signalling
 
--- so many failures in a row
+-- how many failures in a row end the signalling
 abbrev pub max_in_a_row : ℕ
 max_in_a_row = 100
 
@@ -149,7 +150,7 @@ is_behind_turn (Done taken failed) = false
 is_behind_turn Lost = false
 is_behind_turn Behind = true
 
--- the board is no longer what the agent has
+-- the board no longer has what the agent has
 abbrev pub is_behind : Round → Bool
 is_behind (Fired turned) = is_behind_turn turned
 is_behind (Heard turned) = is_behind_turn turned
@@ -164,7 +165,7 @@ end_after x round =
     else if nat_le max_in_a_row x.lost then Some ends.Memory
     else None
 
--- the board's table is the agent's, but where memory was refused
+-- the board's table is the agent's, unless memory was refused
 abbrev pub TableAt : Lists → Contents → End → Type 0
 TableAt lists s ends.Turns = HasTable lists s
 TableAt lists s ends.Stopped = HasTable lists s

@@ -2,11 +2,11 @@
 use Rattle.std.specs.Prelude.{ℕ, zero, suc, ◌+◌, ◌*◌, ◌%◌, ◌^◌}
 use Rattle.rand_chacha.specs.ChaCha.{ChaCha, word_at}
 
--- the place of the word behind this one
+-- the place of the word after this one
 abbrev pub next_place : ℕ → ℕ
 next_place place = (place + 1) % 2 ^ 68
 
--- the stream behind the two words of a salt
+-- the stream after the two words of a salt
 abbrev pub after_salt : ChaCha → ChaCha
 after_salt g = record g { word_pos = next_place (next_place g.word_pos) }
 
@@ -14,7 +14,7 @@ after_salt g = record g { word_pos = next_place (next_place g.word_pos) }
 abbrev pub salt_at : ChaCha → ℕ
 salt_at g = word_at 10 g.key g.stream g.word_pos + word_at 10 g.key g.stream (next_place g.word_pos) * 2 ^ 32
 
--- the stream behind so many salts
+-- the stream after this many salts
 abbrev pub behind_salts : ChaCha → ℕ → ChaCha
 behind_salts g zero = g
 behind_salts g (suc n) = after_salt (behind_salts g n)

@@ -14,14 +14,14 @@ nothing_tried = record { asked = []; sent = [] }
 abbrev pub tried_one : Tried → Sent → Bool → Tried
 tried_one t d failed = record { asked = t.asked ++ d ∷ []; sent = if failed then t.sent else t.sent ++ d ∷ [] }
 
--- of these datagrams those went, in their order, and so many others failed
+-- `gone` are those of these datagrams that went, in their order, and `failed` others failed
 abbrev pub Went : List Sent → List Sent → ℕ → Type 0
 Went [] gone failed = (gone ≡ []) × (failed ≡ 0)
 Went (d ∷ ds) gone failed =
     ((rest : List Sent) × (gone ≡ d ∷ rest) × Went ds rest failed) ⊎ ((others : ℕ) × (failed ≡ 1 + others) × Went ds gone others)
 
--- The wire was asked to send these datagrams, each once and in this order; what went of them stands behind what went
--- before, and so many failed.
+-- The wire was asked to send these datagrams, each once and in this order; those that went are appended to what went
+-- before, and `failed` of them failed.
 pub record Sends (tried tried_after : Tried) (datagrams : List Sent) (failed : ℕ) : Type 0 where
   pub asked : tried_after.asked ≡ tried.asked ++ datagrams
   pub gone : List Sent

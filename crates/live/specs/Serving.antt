@@ -14,8 +14,8 @@ use Rattle.live.specs.declared.streaks.End.{End}
 use Rattle.live.specs.declared.streaks.End.TheVariants.{Turns, Stopped, Socket, Memory}
 use Rattle.live.specs.declared.trouble.Trouble.{Trouble}
 
--- what an event can change, with the stream of salts, the moments that the clock told and the news that the operator
--- handed in, in order, and what the operator was told last
+-- what an event can change, with the stream of salts and what passed to and from the outside, each in order: the
+-- moments of the clock and the news from the operator; and the last trouble reported to the operator
 pub record Course : Type 0 where
   pub state : State
   pub salts : ChaCha
@@ -23,8 +23,8 @@ pub record Course : Type 0 where
   pub news : List News
   pub trouble : Option Trouble
 
--- one round, at the moment that the clock told for it and with the news that the operator handed in for it, if it did,
--- by the next salt of the stream
+-- one round: the clock gave a moment for it, the operator handed in news for it, if any, and it has the next salt of
+-- the stream
 pub record Leads (a b : Course) (round : Round) : Type 0 where
   pub now : ℕ
   pub told : b.moments ≡ a.moments ++ now ∷ []
@@ -41,7 +41,7 @@ pub record RoundAt : Type 0 where
   pub news : Option News
   pub round : Round
 
--- how many events they had, also those that were lost
+-- how many events they had, including those that were lost
 abbrev pub events_after : ℕ → Round → ℕ
 events_after n (Fired turned) = suc n
 events_after n (Heard turned) = suc n
@@ -53,11 +53,11 @@ abbrev pub events_in : List RoundAt → ℕ
 events_in [] = 0
 events_in (x ∷ before) = events_after (events_in before) x.round
 
--- the stream behind them: each event has a salt of its own
+-- the stream after them: each event has a salt of its own
 abbrev pub salts_behind : ChaCha → List RoundAt → ChaCha
 salts_behind g rounds = behind_salts g (events_in rounds)
 
--- each was made at its moment, with the salt that stands behind those of the rounds before it
+-- each was made at its moment, with the salt that comes after those of the rounds before it
 abbrev pub Made : ChaCha → State → List RoundAt → State → Type 0
 Made g a [] b = b ≡ a
 Made g a (x ∷ before) b = (mid : State) × Made g a before mid × Rounds x.now (salt_at (salts_behind g before)) x.news mid b x.round
@@ -67,7 +67,7 @@ abbrev pub moments_of : List RoundAt → List ℕ
 moments_of [] = []
 moments_of (x ∷ before) = moments_of before ++ x.now ∷ []
 
--- the news that they had, behind those that were handed in before
+-- the news that they had, after the news that was handed in before
 abbrev pub news_behind : List News → List RoundAt → List News
 news_behind handed [] = handed
 news_behind handed (x ∷ before) = with_news (news_behind handed before) x.news
@@ -80,12 +80,12 @@ abbrev pub streaks_of : List RoundAt → Streaks
 streaks_of [] = none_failed
 streaks_of (x ∷ before) = streaks_after (streaks_of before) x.round
 
--- what was told last, once this was told, if it was
+-- the trouble that was reported last, after this one, if there was one
 abbrev pub with_trouble : Option Trouble → Option Trouble → Option Trouble
 with_trouble told None = told
 with_trouble told (Some trouble) = Some trouble
 
--- what was told last, where the trouble that began in them was told, each in its round
+-- the trouble that was reported last, if the trouble that began in each of them was reported in its round
 abbrev pub told_in : Option Trouble → List RoundAt → Option Trouble
 told_in told [] = told
 told_in told (x ∷ before) = with_trouble (told_in told before) (trouble_between (streaks_of before) (streaks_of (x ∷ before)))
@@ -102,7 +102,7 @@ EndBy (x ∷ before) end = (end_after (streaks_of (x ∷ before)) x.round ≡ So
 
 -- ---- the end
 
--- so many rounds are left of those that were asked for
+-- how many rounds are left of those that were asked for
 abbrev pub AreLeft : Option ℕ → ℕ → Option ℕ → Type 0
 AreLeft None made left = left ≡ None
 AreLeft (Some turns) made None = ⊥
@@ -114,8 +114,9 @@ EndsAt turns rounds Stopped = GoOn rounds
 EndsAt turns rounds Socket = EndBy rounds Socket
 EndsAt turns rounds Memory = EndBy rounds Memory
 
--- These rounds were made, one for each moment that the clock told, and one of each news that the operator handed in,
--- with the salts of the stream in their order. The trouble that began in them was told as it began, and they ended so.
+-- These rounds were made, one for each moment that the clock gave, with the news that the operator handed in and with
+-- the salts of the stream in their order. The trouble that began in them was reported as it began, and they ended
+-- this way.
 pub record Served (a b : Course) (turns : Option ℕ) (end : End) : Type 0 where
   pub rounds : List RoundAt
   pub made : Made a.salts a.state rounds b.state
@@ -125,7 +126,7 @@ pub record Served (a b : Course) (turns : Option ℕ) (end : End) : Type 0 where
   pub told_there : b.trouble ≡ told_in a.trouble rounds
   pub ends : EndsAt turns rounds end
 
--- one round less, or none where none is left
+-- one round less, or none if none is left
 abbrev pub one_less : Option ℕ → Option (Option ℕ)
 one_less None = Some None
 one_less (Some zero) = None

@@ -2,8 +2,8 @@
 use Rattle.std.specs.Prelude.{ℕ, List, ◌*◌, ◌/◌, ◌%◌, ◌^◌}
 use Rattle.rand_chacha.specs.ChaCha.{ChaCha, key_of}
 
--- The place of the first word of a start, so many nanoseconds since 1970: each microsecond of a second has 2^48 words
--- of its own.
+-- The place of the first word of a start, this many nanoseconds since 1970: each microsecond of a second has 2^48
+-- words of its own.
 abbrev pub first_place : ℕ → ℕ
 first_place nanos = nanos % 1_000_000_000 / 1_000 * 2 ^ 48
 

@@ -62,8 +62,8 @@ pub record Happens (a b : State) (hs : List Happening) : Type 0 where
 
 -- ---- the promise
 
--- The agent stands after this trace of so many events, and the media promise holds of its calls; the table that was
--- published to the board's viewers has the rows of the live calls and no other; and its calls that were answered are
+-- The agent's invariant holds after this trace of `k` events, and so does the media promise of its calls. The table
+-- that was published to the board's viewers has the rows of the live calls and no others, and its answered calls are
 -- the live ones.
 pub record KeepsLive (b : State) (t : List Datagram) (k : ℕ) : Type 0 where
   pub stands : AgentStands b.agent t k
@@ -71,13 +71,13 @@ pub record KeepsLive (b : State) (t : List Datagram) (k : ℕ) : Type 0 where
   pub relays : RelaysLive b.agent.range.ip (table_after b.lists) t
   pub lives : ListsLive b.agent.calls.calls t
 
--- Where the agent stood after this trace of so many events: what happened, read by the grammar, has a trace, and the
--- agent stands after that with any trace of it.
+-- For an agent whose invariant held after this trace of `k` events: what happened, read by the grammar, has a trace,
+-- and the same is kept after that, for any trace of it.
 pub record KeepsAfter (b : State) (hs : List Happening) (t : List Datagram) (k : ℕ) : Type 0 where
   pub trace : (rest : List Datagram) × AreTrace k (entries_of hs) rest
   pub keeps : (rest : List Datagram) → AreTrace k (entries_of hs) rest → KeepsLive b (t ++ rest) (k + length (entries_of hs))
 
--- so it is after each trace after which it stood, as a new one stands after none
+-- this holds after each trace after which the invariant held, as it does for a new agent after none
 abbrev pub KeepsThrough : State → State → List Happening → Type 0
 KeepsThrough a b hs = (t : List Datagram) (k : ℕ) → AgentStands a.agent t k → KeepsAfter b hs t k
 
@@ -86,7 +86,7 @@ pub record LivesOn (a b : State) : Type 0 where
   pub happens : Happens a b happenings
   pub keeps : KeepsThrough a b happenings
 
--- so it was until one round before
+-- it held until one round before
 pub record LivedUntilLast (a b : State) : Type 0 where
   pub mid : State
   pub lives : LivesOn a mid
@@ -96,7 +96,7 @@ pub record LivedUntilLast (a b : State) : Type 0 where
   pub round : Round
   pub last : Rounds now salt news mid b round
 
--- So it is at each end but that by memory, whose last round may have left the board behind the agent.
+-- This holds at each end except one by memory, whose last round may have left the board out of date.
 abbrev pub LivesUntil : State → State → End → Type 0
 LivesUntil a b Turns = LivesOn a b
 LivesUntil a b Stopped = LivesOn a b

@@ -21,8 +21,8 @@ published lists (c ∷ cs) = lists ++ (c ∷ cs) ∷ []
 abbrev pub HasTable : Lists → Contents → Type 0
 HasTable lists s = table_after lists ≡ s.calls.pool.rows
 
--- The agent takes the event as its step does, the board has its changes as one list more, and of what it sends so many
--- fail. A datagram came from an address.
+-- The agent takes the event as its step does, the board has its changes as one list more, and `failed` of the
+-- datagrams that it sends fail. A datagram came from an address.
 pub record Carries (e : Event) (a b : State) (taken : Taken) (failed : ℕ) : Type 0 where
   pub agent : b.agent ≡ after a.agent e
   pub answer : taken ≡ (row a.agent e).plan.taken
@@ -36,8 +36,8 @@ pub record IsSilent (a b : State) : Type 0 where
   pub board : b.lists ≡ a.lists
   pub wire : b.wire.tried ≡ a.wire.tried
 
--- What an event leaves of agent, board and wire. An event that is lost counts as not come. Where nothing could be
--- published, the agent took the event, and nothing was published or sent.
+-- What an event leaves of agent, board and wire. An event that is lost counts as not come. If nothing could be
+-- published, the agent took the event, but nothing was published or sent.
 abbrev pub Turns : Event → State → State → Turned → Type 0
 Turns e a b (Done taken failed) = Carries e a b taken failed
 Turns e a b Lost = (b.agent ≡ a.agent) × IsSilent a b

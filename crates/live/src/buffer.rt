@@ -1,4 +1,4 @@
-//! The buffer into which datagrams are taken.
+//! The buffer that receives datagrams.
 
 ghost use Rattle.std.specs.Prelude.{◌≡◌, IfOk, length};
 ghost use Rattle.live.specs.Arrivals.{buffer_length};
@@ -7,10 +7,10 @@ use sip_uri::Addr;
 use std::alloc::{AllocError, Global};
 use std::marker::Model;
 
-/// One byte more than a datagram may have: a longer one is seen to be too long.
+/// One byte more than a datagram may have, so that a longer one is seen to be too long.
 const BUFFER: usize = 16_385;
 
-/// Room for one datagram, and one byte more; and where the last came from.
+/// Room for one datagram and one byte more, and where the last datagram came from.
 #[derive(Drop)]
 pub struct DatagramBuffer {
     pub(crate) bytes: Vec<u8>,

@@ -15,7 +15,7 @@ pub enum News {
     Users(Texts<'static>),
 }
 
-/// What happens by news.
+/// The event that news becomes.
 pub(crate) fn what_of(news: News) -> What
     ensures { result ≡ what_of news }
 {

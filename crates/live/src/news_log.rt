@@ -7,8 +7,8 @@ use crate::news::News;
 use std::alloc::{AllocError, Global};
 use std::snapshot::Snapshot;
 
-/// News in the order in which they were noted. A program learns nothing of them by this, and they have no bytes: an
-/// operator tells by it in its clauses what it handed in.
+/// News in the order in which it was noted. A program learns nothing from this, and it has no bytes: an operator uses
+/// it in its clauses to say what it handed in.
 #[derive(Drop)]
 pub struct NewsLog {
     entries: Vec<Snapshot<News>>,
@@ -24,7 +24,7 @@ impl NewsLog {
         }
     }
 
-    /// Notes news behind the others.
+    /// Notes news after the earlier ones.
     pub fn note(&mut self, news: &News) -> Result<(), AllocError>
         ensures ok { OnOk result (logged self.new ≡ logged self.old ++ news.now ∷ []) }
         ensures err { OnErr result (logged self.new ≡ logged self.old) }

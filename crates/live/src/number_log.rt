@@ -6,8 +6,8 @@ ghost use base.Fml.{ftrue};
 
 use std::marker::Model;
 
-/// Numbers in the order in which they were noted. A program learns nothing of them by this: a clock tells by it in its
-/// clauses which moments it told, and a wire which waits it was asked for.
+/// Numbers in the order in which they were noted. A program learns nothing from this. A clock uses it in its clauses
+/// to say which moments it gave, and a wire to say which waits it was asked for.
 #[derive(Drop)]
 pub struct NumberLog {
     pub ghost entries: { List ℕ } by { coded_list coded_ℕ },
@@ -25,7 +25,7 @@ impl NumberLog {
         NumberLog {}
     }
 
-    /// Notes a number behind the others. Takes no memory.
+    /// Notes a number after the earlier ones. Takes no memory.
     pub fn note(&mut self, number: u64)
         ensures { self.new.entries ≡ self.old.entries ++ number ∷ [] }
     {

@@ -1,4 +1,4 @@
-//! One round of the signalling: it tells the agent news, or fires what is due, or takes a datagram, or waits.
+//! One round of the signalling: it passes news to the agent, or fires what is due, or takes a datagram, or waits.
 
 ghost use Rattle.std.specs.Prelude.{◌≡◌, ◌∷◌, ◌++◌, [], false, IfOk, MatchOption, MatchResult, None};
 ghost use Rattle.std.specs.Result.{is_err};
@@ -23,7 +23,7 @@ use std::alloc::{AllocError, Global};
 use std::sync::Wait;
 use text::Text;
 
-/// So many milliseconds are waited at most.
+/// How many milliseconds are waited at most.
 const MAX_WAIT: u64 = 100;
 
 /// What a round did.
@@ -31,7 +31,7 @@ const MAX_WAIT: u64 = 100;
 pub enum Round {
     /// A timer was due.
     Fired(Turned),
-    /// There were news.
+    /// There was news.
     Heard(Turned),
     /// A datagram was there.
     Took(Turned),
@@ -41,7 +41,7 @@ pub enum Round {
     Failed,
 }
 
-/// How many milliseconds to wait until the next moment that is due: at most 100.
+/// How many milliseconds to wait until the next moment at which something is due: at most 100.
 fn wait_until(now: u64, due: Option<u64>) -> u64
     ensures { result ≡ wait_until now due }
 {
@@ -71,7 +71,7 @@ fn datagram(alloc: Global, source: Addr, bytes: &[u8]) -> Result<What, AllocErro
     })
 }
 
-/// Takes a datagram where one is there: what comes with it, unless memory is refused for that.
+/// Takes a datagram if one is there, and returns what comes with it, unless memory is refused for that.
 fn receive<W: Wire>(
     alloc: Global,
     wire: &mut W,
@@ -116,7 +116,7 @@ impl<W: Wire> Signalling<W> {
         turned
     }
 
-    // An event that no datagram comes with, with the next salt.
+    // An event that comes without a datagram, with the next salt.
     fn happen_alone<R: Wait>(&mut self, rt: &R, now: u64, what: What) -> Turned
         requires { HasTable self.old.board self.old.agent }
         ensures turns { Turns (event now (salt_at self.old.salts) what)
@@ -154,9 +154,9 @@ impl<W: Wire> Signalling<W> {
         }
     }
 
-    /// Tells the agent these news, where there are any. Else fires one timer that is due at this moment, in
-    /// milliseconds, or else takes one datagram, or else waits until the next moment that is due, at most 100
-    /// milliseconds. An event has the next salt of the stream.
+    /// Passes this news to the agent, if there is any. Otherwise fires one timer that is due at this moment, in
+    /// milliseconds, or takes one datagram. If there is neither, waits until the next moment that is due, at most 100
+    /// milliseconds. The event gets the next salt of the stream.
     pub fn round<R: Wait>(&mut self, rt: &R, now: u64, news: Option<News>) -> Round
         requires { HasTable self.old.board self.old.agent }
         ensures round { Rounds now (salt_at self.old.salts) news

@@ -12,10 +12,10 @@ use rand_core::SeedableRng;
 use rand_core::utils::next_u64_via_u32;
 use std::time::Duration;
 
-/// Words of a stream that each microsecond of a second has.
+/// How many words of a stream each microsecond of a second has.
 const WORDS_A_MICROSECOND: u128 = 1 << 48;
 
-/// The generator of a key at a start, which is so long after 1970: its stream is the second, and its first place the
+/// The generator of a key at `start`, the time since 1970: its stream is the second, and its first place the
 /// microsecond's. Takes no memory.
 pub fn salts_of(key: [u8; 32], start: Duration) -> ChaCha20Rng
     ensures { result ≡ begun_at key (as_nanos start) }
@@ -34,7 +34,7 @@ pub fn next_salt(salts: &mut ChaCha20Rng) -> u64
     next_u64_via_u32(salts)
 }
 
-/// A key of prints: the next two salts of the stream, which no event gets then. Takes no memory.
+/// A print key: the next two salts of the stream, which no event gets then. Takes no memory.
 pub fn next_print_key(salts: &mut ChaCha20Rng) -> PrintKey
     ensures first { result.first ≡ salt_at salts.old }
     ensures second { result.second ≡ salt_at (after_salt salts.old) }
@@ -45,12 +45,12 @@ pub fn next_print_key(salts: &mut ChaCha20Rng) -> PrintKey
     PrintKey { first, second }
 }
 
-/// Of fewer than 2^67 salts each has its own place in the stream.
+/// Fewer than 2^67 salts each have their own place in the stream.
 pub fn salts_have_their_own_places()
     ensures { (g : ChaCha) (m n : ℕ) → m < n → n < 2 ^ 67 → (behind_salts g m).word_pos ≢ (behind_salts g n).word_pos }
 {}
 
-/// Two starts at different microseconds have none of their first 2^47 salts at one place of one stream.
+/// Two starts at different microseconds share no place of a stream among their first 2^47 salts.
 pub fn starts_have_their_own_places()
     ensures { (key : List ℕ) (a b m n : ℕ) → a / 1_000 ≢ b / 1_000 → m < 2 ^ 47 → n < 2 ^ 47
         → (behind_salts (begun_at key a) m).stream ≡ (behind_salts (begun_at key b) n).stream

@@ -16,9 +16,9 @@ use media_laws::agents_stand;
 use std::sync::Wait;
 use std::sync::atomic::{AtomicBool, Ordering};
 
-/// Tells the moments.
+/// Gives the moments.
 pub trait Clock {
-    /// The moments that it told, in order.
+    /// The moments that it gave, in order.
     ghost told: { Self → List ℕ };
 
     /// The milliseconds since the start.
@@ -26,7 +26,7 @@ pub trait Clock {
         ensures told { told self.new ≡ told self.old ++ result ∷ [] };
 }
 
-// One round less, or None where none is left.
+// One round less, or None if none is left.
 fn one_less(turns: Option<u64>) -> Option<Option<u64>>
     ensures { result ≡ one_less turns }
 {
@@ -37,7 +37,7 @@ fn one_less(turns: Option<u64>) -> Option<Option<u64>>
     }
 }
 
-// One round, of whose trouble and event the operator is told.
+// One round, whose trouble and event are reported to the operator.
 fn go_on<W: Wire, C: Clock, O: Operator, R: Wait>(
     rt: &R,
     signalling: &mut Signalling<W>,
@@ -78,8 +78,8 @@ fn go_on<W: Wire, C: Clock, O: Operator, R: Wait>(
 }
 
 /// Makes rounds until as many are made as are asked for, until the flag is set, or until too many in a row fail. The
-/// operator is told of each kind of trouble as it begins, and of each event once the agent took it; the agent is told
-/// the operator's news, each once.
+/// operator is notified of each kind of trouble as it begins, and of each event once the agent took it. The agent
+/// gets each piece of the operator's news once.
 pub fn serve<W: Wire, C: Clock, O: Operator, R: Wait>(
     rt: &R,
     signalling: &mut Signalling<W>,

@@ -18,8 +18,8 @@ use std::alloc::Global;
 use std::sync::Wait;
 use std::time::Duration;
 
-/// The agent with its board, its socket, its salts and a buffer for one datagram. It is not `Drop`, since the board is
-/// not: end it by `close`.
+/// The agent with its board, its socket, its salts and a buffer for one datagram. It is not `Drop`, since the board
+/// is not: end it with `close`.
 pub struct Signalling<W> {
     pub alloc: Global,
     pub agent: Agent,
@@ -30,9 +30,9 @@ pub struct Signalling<W> {
 }
 
 impl<W> Signalling<W> {
-    /// The signalling of a configuration, to which nothing has happened, on a board and a wire: its salts are those of
-    /// the configured key at the start, which is so long after 1970, behind the key of prints. The board comes back
-    /// where it can't be made.
+    /// The signalling of a configuration, to which nothing has happened, on a board and a wire. Its salts are those
+    /// of the configured key at `start`, the time since 1970, after those of the print key. The board is returned if
+    /// the signalling can't be made.
     pub fn new(
         alloc: Global,
         config: &Config,

@@ -6,7 +6,7 @@ ghost use Rattle.live.specs.Rounds.{end_after, is_behind, is_behind_turn, lost_a
 use crate::round::Round;
 use crate::turn::Turned;
 
-/// So many receives or waits that failed in a row, or events that were lost in a row, end the signalling.
+/// How many receives or waits that failed in a row, or events that were lost in a row, end the signalling.
 const MAX_IN_A_ROW: u32 = 100;
 
 /// Why the signalling ended.
@@ -92,7 +92,7 @@ impl Streaks {
         }
     }
 
-    /// Why the signalling ends behind a round after which these are the counts, if it does. Takes no memory.
+    /// Why the signalling ends after a round that leaves these counts, if it does. Takes no memory.
     pub fn end(self, round: Round) -> Option<End>
         ensures { result ≡ end_after self round }
     {

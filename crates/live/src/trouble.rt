@@ -1,4 +1,4 @@
-//! Trouble that an operator is told of, as it begins, and what events were about.
+//! Trouble that is reported to an operator as it begins, and what events were about.
 
 ghost use Rattle.std.specs.Prelude.{◌≡◌, List, Option, Some};
 ghost use Rattle.live.specs.Troubles.{trouble_between};
@@ -23,15 +23,15 @@ pub enum Trouble {
     Memory,
 }
 
-/// Who is told of trouble, and has news for the agent.
+/// Receives reports of trouble, and has news for the agent.
 pub trait Operator {
-    /// What was told last.
+    /// The trouble that was reported last.
     ghost told: { Self → Option declared.Trouble };
 
     /// The news that it handed in, in order.
     ghost handed: { Self → List declared_news.News };
 
-    /// News by this moment, in milliseconds, if there are any: they are asked for at each round, which then has no
+    /// News by this moment, in milliseconds, if there is any. Each round asks for it, and a round with news has no
     /// other event.
     fn news(&mut self, now: u64) -> Option<News>
         ensures told { told self.new ≡ told self.old }
@@ -48,21 +48,20 @@ pub trait Operator {
         ensures handed { handed self.new ≡ handed self.old };
 
     /// The agent took an event at this moment, in milliseconds: a datagram from this source, a timer, or the news of
-    /// this round. Its note says what that was about.
+    /// this round. The agent's note says what the event was about.
     fn noted(&mut self, agent: &Agent, source: Option<Addr>, now: u64)
         ensures told { told self.new ≡ told self.old }
         ensures handed { handed self.new ≡ handed self.old };
 
-    /// A round took no event, at this moment, in milliseconds: its news are lost, if it had any. One comes each tenth
-    /// of a second where none are taken.
+    /// A round took no event, at this moment, in milliseconds: its news is lost, if it had any. Such a round comes
+    /// every tenth of a second if no events are taken.
     fn look(&mut self, agent: &Agent, now: u64)
         ensures told { told self.new ≡ told self.old }
         ensures handed { handed self.new ≡ handed self.old };
 }
 
 impl Streaks {
-    /// The trouble that begins with a round before which these are the counts, and after which the others are. Takes no
-    /// memory.
+    /// The trouble that begins with a round that turns these counts into `after`. Takes no memory.
     pub fn trouble_until(self, after: Streaks) -> Option<Trouble>
         ensures { result ≡ trouble_between self after }
     {
@@ -76,7 +75,7 @@ impl Streaks {
     }
 }
 
-/// The operator is told, where there is any trouble.
+/// Reports the trouble to the operator, if there is any.
 fn tell_of<O: Operator>(operator: &mut O, trouble: Option<Trouble>)
     ensures told { O.told operator.new ≡ with_trouble (O.told operator.old) trouble }
     ensures handed { O.handed operator.new ≡ O.handed operator.old }
@@ -86,8 +85,7 @@ fn tell_of<O: Operator>(operator: &mut O, trouble: Option<Trouble>)
     }
 }
 
-/// The operator is told of the trouble that ended with a round before which these are the counts, and after which the
-/// others are.
+/// Reports to the operator the trouble that ended with a round, given the counts before and after it.
 fn tell_of_ends<O: Operator>(operator: &mut O, before: Streaks, after: Streaks)
     ensures told { O.told operator.new ≡ O.told operator.old }
     ensures handed { O.handed operator.new ≡ O.handed operator.old }
@@ -100,7 +98,7 @@ fn tell_of_ends<O: Operator>(operator: &mut O, before: Streaks, after: Streaks)
     }
 }
 
-/// The operator is told of the trouble that began or ended with a round.
+/// Reports to the operator the trouble that began or ended with a round.
 pub(crate) fn tell_of_change<O: Operator>(operator: &mut O, before: Streaks, after: Streaks)
     ensures told { O.told operator.new ≡ with_trouble (O.told operator.old) (trouble_between before after) }
     ensures handed { O.handed operator.new ≡ O.handed operator.old }
@@ -109,7 +107,7 @@ pub(crate) fn tell_of_change<O: Operator>(operator: &mut O, before: Streaks, aft
     tell_of_ends(operator, before, after);
 }
 
-/// The operator is told of the event of a round, where the agent took one: a timer, news, or the last datagram, which
+/// Reports the event of a round to the operator, if the agent took one: a timer, news, or the last datagram, which
 /// came from there.
 pub(crate) fn tell_of_event<O: Operator>(
     operator: &mut O,

@@ -26,7 +26,7 @@ pub enum Turned {
     Behind,
 }
 
-// Sends a datagram, and gives how many failed.
+// Sends a datagram, and returns how many failed.
 #[tactic(auto, using(crate::proofs::SendLaws::sends_one, crate::proofs::SendLaws::fails_one))]
 fn send_one<W: Wire>(wire: &mut W, datagram: &Sent) -> usize
     ensures sends { Sends (W.seen wire.old).tried (W.seen wire.new).tried (datagram.now ∷ []) result }
@@ -39,7 +39,7 @@ fn send_one<W: Wire>(wire: &mut W, datagram: &Sent) -> usize
     }
 }
 
-// Sends all of them in order, and gives how many failed.
+// Sends all of them in order, and returns how many failed.
 fn send_all<W: Wire>(wire: &mut W, datagrams: &[Sent]) -> usize
     ensures sends { Sends (W.seen wire.old).tried (W.seen wire.new).tried datagrams.now result }
     ensures only_sends { OnlySends (W.seen wire.old) (W.seen wire.new) }
@@ -51,7 +51,7 @@ fn send_all<W: Wire>(wire: &mut W, datagrams: &[Sent]) -> usize
     failed
 }
 
-// Publishes changes as one list, where there are any.
+// Publishes changes as one list, if there are any.
 fn publish<R: Wait>(
     rt: &R,
     alloc: Global,
@@ -67,8 +67,8 @@ fn publish<R: Wait>(
     board.publish(rt, alloc, changes)
 }
 
-/// The agent takes an event; then the changes of its relay table are published as one list; then what it sends goes out
-/// in order. A send that fails loses that datagram alone. It waits for look-ups in the table to end.
+/// The agent takes an event; then the changes of its relay table are published as one list; then what it sends goes
+/// out in order. A send that fails loses only that datagram. The call waits for look-ups in the table to end.
 pub fn live_turn<W: Wire, R: Wait>(
     rt: &R,
     alloc: Global,

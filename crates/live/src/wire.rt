@@ -13,13 +13,13 @@ use thiserror::Error;
 #[error("the socket of the signalling failed")]
 pub struct WireFault;
 
-/// The socket of the signalling. Its clauses tell what it took and the room that it was given, what it was asked to
-/// send and what of that went, how long it was asked to wait, and whether the last call failed.
+/// The socket of the signalling. Its clauses say what it took, the room that it was given, what it was asked to send,
+/// and what of that went. They also say how long it was asked to wait, and whether the last call failed.
 pub trait Wire {
     ghost seen: { Self → WireState };
 
-    /// Takes a datagram into the buffer, and gives where it came from and its length in bytes. None where there is none
-    /// now, or where nobody knows of one: `wait` learns of it. What doesn't fit the buffer is cut off.
+    /// Takes a datagram into the buffer, and returns where it came from and its length in bytes. None if there is
+    /// none now, or if none is known of yet: `wait` learns of it. What doesn't fit the buffer is cut off.
     fn receive(&mut self, buffer: &mut [u8]) -> Result<Option<(Addr, usize)>, WireFault>
         ensures fits { IfOk result (λ r. IfSome r (λ d. d.1 ≤ length buffer.new)) }
         ensures taken { MatchResult result
@@ -39,7 +39,7 @@ pub trait Wire {
         ensures waited { (seen self.new).waited ≡ (seen self.old).waited }
         ensures failed { (seen self.new).failed ≡ is_err result };
 
-    /// Waits until a datagram is there, for so many milliseconds at most.
+    /// Waits until a datagram is there, for at most this many milliseconds.
     fn wait(&mut self, millis: u64) -> Result<(), WireFault>
         ensures waited { (seen self.new).waited ≡ (seen self.old).waited ++ millis ∷ [] }
         ensures taken { (seen self.new).taken ≡ (seen self.old).taken }

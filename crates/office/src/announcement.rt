@@ -1,8 +1,8 @@
-//! The line that tells where telephones are served.
+//! The line that says where telephones are served.
 
 use configuration::Config;
 
-/// Tells that telephones are served.
+/// Announces that telephones are served.
 pub(crate) trait Announcer {
     fn announce(&self);
 }
@@ -14,7 +14,7 @@ pub(crate) struct Announcement<'a, R> {
     pub(crate) config: &'a Config,
 }
 
-/// Says so where the key of the random numbers is the example's, which everybody knows.
+/// Warns if the key of the random numbers is the example's, which everybody knows.
 pub(crate) fn warn_of_zeros<R: Eprint>(rt: &R, config: &Config) {
     if config.random_key == [0; 32] {
         let _ = eprintln!(rt;

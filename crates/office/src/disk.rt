@@ -5,7 +5,7 @@ use std::fs::Files;
 use std::io::{ErrorKind, Read};
 use std::{fs, io};
 
-/// A file, or what stands for one that could not be opened: each read of it fails.
+/// A file, or a placeholder for one that could not be opened: each read of it fails.
 #[derive(Drop)]
 pub(crate) enum Opened<F> {
     File(F),
@@ -32,7 +32,7 @@ impl<R: Files> Shelf for Disk<'_, R> {
 
     ghost use Rattle.std.specs.Prelude.{None};
 
-    // What a file of the system has is not known.
+    // The contents of a file of the system are not known.
     ghost contents = { λ _ _. None };
 
     fn open(&self, path: &str) -> Opened<R::File> {

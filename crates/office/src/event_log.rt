@@ -34,7 +34,7 @@ impl EventLog {
         }
     }
 
-    /// The counts, where it is time for them and they changed.
+    /// Writes the counts, if it is time for them and they changed.
     fn put_counts(&mut self, out: &mut Vec<u8>, tally: Tally, now: u64) -> Result<(), AllocError> {
         if !self.counts.is_due(tally, now) {
             return Ok(());
@@ -45,7 +45,7 @@ impl EventLog {
         Ok(())
     }
 
-    /// A line of how many events were left out, if any were.
+    /// Appends a line with how many events were left out, if any were.
     fn put_left_out(&mut self, out: &mut Vec<u8>, now: u64) -> Result<(), AllocError> {
         match self.limit.take_left_out(now) {
             0 => Ok(()),
@@ -53,13 +53,14 @@ impl EventLog {
         }
     }
 
-    /// What happened to a call: the media of the calls are counted by that. How many it carried, where it is over.
+    /// Follows what happened to a call, so that its media are counted. Returns how many datagrams it carried if it is
+    /// over.
     fn follow(&mut self, agent: &Agent, note: NoteOfCall, now: u64) -> Option<MediaCounts> {
         let _ = self.media.follow(agent.calls(), note, now);
         self.media.end(note)
     }
 
-    /// Writes the lines that are due at this moment, in milliseconds, after what is there.
+    /// Appends the lines that are due at this moment, in milliseconds.
     pub(crate) fn put_due(
         &mut self,
         out: &mut Vec<u8>,
@@ -78,7 +79,7 @@ impl EventLog {
         Ok(())
     }
 
-    /// The same, and after them the line of an event that the agent took then; a datagram came from `source`.
+    /// The same, followed by the line of an event that the agent took then. A datagram came from `source`.
     pub(crate) fn put_lines(
         &mut self,
         out: &mut Vec<u8>,

@@ -4,7 +4,8 @@ use rtrb::Producer;
 use server::put_count;
 use std::alloc::Global;
 
-/// The end that hands lines over. It never waits: lines that find no room are counted, and told once there is some.
+/// The end that passes lines on. It never waits: lines that find no room are counted, and the count is logged once
+/// there is room.
 #[derive(Drop)]
 pub(crate) struct LogLines {
     alloc: Global,
@@ -32,7 +33,7 @@ impl LogLines {
         }
     }
 
-    /// Tells how many lines found no room, if any did not, and there is some now.
+    /// Logs how many lines found no room, if any did not and there is room now.
     pub(crate) fn tell_lost(&mut self) {
         if self.lost == 0 {
             return;
@@ -45,7 +46,7 @@ impl LogLines {
         }
     }
 
-    /// Hands lines over, each with its end.
+    /// Passes lines on, each with its end.
     pub(crate) fn put(&mut self, lines: &[u8]) {
         self.tell_lost();
         if self.ring.push_entire_slice(lines).is_err() {

@@ -6,7 +6,7 @@ use std::alloc::{AllocError, Global};
 use std::sync::Wait;
 use std::sync::atomic::{AtomicBool, Ordering};
 
-/// So many bytes are written at once.
+/// How many bytes are written at once.
 const BLOCK: usize = 4_096;
 
 /// The lines of the events and those of the socket for SIP, and where they are written.
@@ -18,7 +18,7 @@ pub(crate) struct LogWriter {
     block: Vec<u8>,
 }
 
-/// Writes all that is there: whole lines, since lines are handed over as a whole. Whether there were any.
+/// Writes everything that is there: whole lines, since lines are passed on whole. Returns whether there were any.
 fn write_all<R: Wait>(
     rt: &R,
     ring: &mut Consumer<u8>,
@@ -55,7 +55,7 @@ impl LogWriter {
     /// Writes lines until the flag is set and none are left.
     pub(crate) fn run<R: Wait>(mut self, rt: &R, is_over: &AtomicBool) {
         for _ in rt.forever() {
-            // What was handed over before the flag was set is there now.
+            // What was passed on before the flag was set is there now.
             let is_last = is_over.load(Ordering::SeqCst);
             let block = self.block.as_mut_slice();
             let of_events = write_all(rt, &mut self.events, &mut self.stream, block);

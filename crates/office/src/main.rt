@@ -1,5 +1,5 @@
-//! The office's call server: hands the words of the command line, the files that they name and the standard streams to
-//! the library `server`, and serves telephones by the sockets, the clock and the threads of the system.
+//! The office's call server. It passes the words of the command line, the files that they name and the standard
+//! streams to the library `server`. It serves telephones with the sockets, the clock and the threads of the system.
 #![tactic(auto)]
 
 mod announcement;
@@ -34,7 +34,7 @@ use std::sync::Wait;
 use std::thread::Threads;
 use std::{env, io};
 
-/// All words of the command line, the program's own first.
+/// All words of the command line, starting with the program's own name.
 fn words<R: Env + AllocGlobal>(rt: &R) -> Result<Vec<String>, CommandError> {
     let given = match env::args(rt) {
         Ok(given) => given,
@@ -50,7 +50,7 @@ fn words<R: Env + AllocGlobal>(rt: &R) -> Result<Vec<String>, CommandError> {
     Ok(words)
 }
 
-/// The path of the configuration that these words ask to be served, if they do.
+/// The path of the configuration that these words ask to serve, if they do.
 fn path_in(alloc: Global, words: &[&str]) -> Result<Option<String>, AllocError> {
     match command(alloc, words) {
         Ok(Asked::Serve { config, .. }) => Ok(Some(config.to_owned(alloc)?)),

@@ -1,4 +1,4 @@
-//! The media of the calls that stand: `call_traffic` counts them, by what the workers passed on.
+//! The media of the live calls: `call_traffic` counts them, from what the workers passed on.
 
 use crate::port_counts::Counts;
 use call_core::{Call, CallNote, End, NoteOfCall};
@@ -10,13 +10,13 @@ use server::{Ledger, MediaCounts, put_silent_way};
 use status::DatagramCounts;
 use std::alloc::{AllocError, Global};
 
-/// The media of the calls that stand.
+/// The media of the live calls.
 #[derive(Drop)]
 pub(crate) struct MediaLog {
     alloc: Global,
     counts: Counts,
     log: TrafficLog,
-    /// Whether a silent call may be found by the last look.
+    /// Whether the last look may have found a silent call.
     may_find: bool,
 }
 
@@ -41,7 +41,7 @@ fn is_end(note: CallNote) -> bool {
     )
 }
 
-/// The ports to which an end of a call sends, with their counts by now.
+/// The ports to which an end of a call sends, with their counts so far.
 fn ports_by_now(
     alloc: Global,
     counts: &mut Counts,
@@ -76,7 +76,7 @@ fn read(traffic: &mut CallTraffic, counts: &mut Counts) {
     read_end(&mut traffic.from_callee, counts);
 }
 
-/// The ports of a call, as it stands.
+/// The ports of a call, as it is now.
 fn take_ports(
     alloc: Global,
     counts: &mut Counts,
@@ -88,7 +88,7 @@ fn take_ports(
     traffic.take_ports(&caller, &callee)
 }
 
-/// The ports of a call, and where its media should come from, as it stands behind this.
+/// The ports of a call, and where its media should come from, as it is after this.
 fn follow(
     alloc: Global,
     counts: &mut Counts,
@@ -110,7 +110,7 @@ fn follow(
     Ok(())
 }
 
-/// Lines of the ends of a call that are silent.
+/// Writes lines for the ends of a call that are silent.
 fn put_silent_ways(
     out: &mut Vec<u8>,
     alloc: Global,
@@ -136,7 +136,7 @@ impl MediaLog {
         }
     }
 
-    /// What happened to a call, which is over, or stands among these. Where memory is refused, some of its media are
+    /// Follows what happened to a call, which is over or is among these. If memory is refused, some of its media are
     /// not counted.
     pub(crate) fn follow(
         &mut self,
@@ -159,7 +159,7 @@ impl MediaLog {
         Ok(())
     }
 
-    /// How much came from each end of a call that is over by this. None where it is not, or isn't known.
+    /// How much came from each end of a call that is over by this. None if it is not over, or isn't known.
     pub(crate) fn end(&mut self, note: NoteOfCall) -> Option<MediaCounts> {
         if !is_end(note.note) {
             return None;
@@ -176,7 +176,7 @@ impl MediaLog {
         })
     }
 
-    /// Looks at the calls, if it is time to. Whether it was.
+    /// Looks at the calls, if it is time to. Returns whether it was.
     pub(crate) fn look(&mut self, now: u64) -> bool {
         if !self.log.is_due(now) {
             return false;
@@ -189,8 +189,8 @@ impl MediaLog {
         true
     }
 
-    /// The number of the first answered call in which nothing came from either end for so many minutes, by the last
-    /// look. A call is told once a minute at most: one that could not be ended is told again.
+    /// The number of the first answered call in which nothing came from either end for this many minutes, according
+    /// to the last look. A call is reported at most once a minute: one that could not be ended is reported again.
     pub(crate) fn silent_call(&mut self, now: u64, minutes: u32) -> Option<u64> {
         if !self.may_find {
             return None;
@@ -200,7 +200,7 @@ impl MediaLog {
         found
     }
 
-    /// What was counted of each call by now, in the order in which they began.
+    /// What was counted for each call so far, in the order in which the calls began.
     pub(crate) fn traffic(&mut self) -> Result<Vec<status::CallTraffic>, AllocError> {
         let mut shown = Vec::with_capacity(self.alloc, self.log.calls.len())?;
         for traffic in self.log.calls.iter_mut() {
@@ -210,12 +210,12 @@ impl MediaLog {
         Ok(shown)
     }
 
-    /// How much came in all calls since the start, by the last reading of each.
+    /// How much came in all calls since the start, according to the last reading of each.
     pub(crate) fn datagrams(&self) -> DatagramCounts {
         self.log.datagrams()
     }
 
-    /// Writes lines of the ends that are silent behind what is there.
+    /// Appends lines for the ends that are silent.
     pub(crate) fn put_silent_ways(
         &mut self,
         out: &mut Vec<u8>,

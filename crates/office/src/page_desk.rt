@@ -8,16 +8,16 @@ use status::{Overview, Status};
 use std::alloc::{AllocError, Global};
 use text::Text;
 
-/// A snapshot is shown for so many milliseconds.
+/// For how many milliseconds a snapshot is shown.
 const FRESH: u64 = 1_000;
 
-/// So many lines of the log are shown.
+/// How many lines of the log are shown.
 const MAX_LINES: usize = 50;
 
-/// So many moments wait for the page at most.
+/// How many moments wait for the page at most.
 pub(crate) const ROOM_OF_MOMENTS: usize = 16;
 
-/// So many bytes of lines are taken at once.
+/// How many bytes of lines are taken at once.
 const BLOCK: usize = 4_096;
 
 /// The end of the page's thread.
@@ -31,7 +31,7 @@ pub(crate) struct PageDesk {
     statuses: Consumer<Status>,
     lines: Consumer<u8>,
     latest: Option<Status>,
-    /// When the latest snapshot came, and what time it is by the clock of the signalling, in milliseconds.
+    /// When the latest snapshot came, and the current time on the clock of the signalling, in milliseconds.
     came: u64,
     now: u64,
     /// The last lines, oldest first, and the beginning of one more.
@@ -40,7 +40,7 @@ pub(crate) struct PageDesk {
     block: Vec<u8>,
 }
 
-/// The last of the moments that were handed over; this one where none were.
+/// The last of the moments that were passed on; `before` if there were none.
 fn last_of(moments: &mut Consumer<u64>, before: u64) -> u64 {
     let mut last = before;
     for _ in 0..ROOM_OF_MOMENTS {
@@ -52,7 +52,7 @@ fn last_of(moments: &mut Consumer<u64>, before: u64) -> u64 {
     last
 }
 
-/// Adds bytes to the lines. Of too many the earliest goes.
+/// Adds bytes to the lines. If there are too many lines, the earliest is dropped.
 fn add_lines(
     alloc: Global,
     log: &mut Vec<Text<'static>>,
@@ -98,8 +98,8 @@ impl PageDesk {
         })
     }
 
-    /// Takes what the signalling handed over, and gives its moment, in milliseconds. Lines for which there is no memory
-    /// are left out.
+    /// Takes what the signalling passed on, and returns its moment, in milliseconds. Lines for which there is no
+    /// memory are left out.
     pub(crate) fn take(&mut self) -> u64 {
         self.now = last_of(&mut self.moments, self.now);
         if let Ok(status) = self.statuses.pop() {

@@ -5,10 +5,10 @@ use page_server::PageServer;
 use std::sync::Wait;
 use std::sync::atomic::{AtomicBool, AtomicUsize, Ordering};
 
-/// So many milliseconds it waits for somebody who asks.
+/// How many milliseconds it waits for a request.
 const WAIT: u64 = 100;
 
-/// After so many waits in a row that the system refused, there is no page any more.
+/// After this many waits in a row that the system refused, the page is no longer served.
 const MAX_REFUSED: u32 = 100;
 
 /// What the thread of the page has.
@@ -37,7 +37,7 @@ fn run<R: Wait>(rt: &R, page: Page, is_over: &AtomicBool) {
     }
 }
 
-/// Serves the page until the flag is set, where there is one.
+/// Serves the page until the flag is set, if there is a page.
 pub(crate) fn serve_page<R: Wait>(
     rt: &R,
     page: Option<Page>,

@@ -10,7 +10,7 @@ pub(crate) struct Counts {
 }
 
 impl Counts {
-    /// Of these workers.
+    /// The counts of these workers.
     pub(crate) fn of_workers<S: MediaSocket>(
         alloc: Global,
         workers: &[Worker<S>],

@@ -11,12 +11,12 @@ use std::{fmt, fs};
 #[derive(Clone, Copy)]
 pub(crate) enum Refusal {
     Unbound(Unbound),
-    /// The process may have so many file descriptors, and so many are needed.
+    /// The process may have `limit` file descriptors, and `needed` are needed.
     Descriptors { limit: u64, needed: u64 },
 }
 
 impl Refusal {
-    /// What it is to the program.
+    /// The fault that it means for the program.
     pub(crate) fn fault(self) -> HostFault {
         match self {
             Refusal::Unbound(unbound) if unbound.kind == ErrorKind::OutOfMemory => {
@@ -38,7 +38,7 @@ impl fmt::Display for Refusal {
     }
 }
 
-/// How many file descriptors the process may have, where Linux tells it.
+/// How many file descriptors the process may have, if Linux says so.
 fn descriptor_limit<R: Files + AllocGlobal>(rt: &R) -> Option<u64> {
     let told = fs::read(rt, "/proc/self/limits").ok()?;
     let text = str::from_utf8(&told).ok()?;
@@ -46,10 +46,10 @@ fn descriptor_limit<R: Files + AllocGlobal>(rt: &R) -> Option<u64> {
     behind.split_whitespace().next()?.parse::<u64>().ok()
 }
 
-/// What the page takes: its socket, what waits for it, and its connections.
+/// How many descriptors the page takes: its socket, what waits for it, and its connections.
 const FOR_THE_PAGE: u64 = 34;
 
-/// A socket for SIP and one for each relay port, what each thread waits with, also that of the log, the standard
+/// A socket for SIP and one for each relay port, what each thread waits with, including that of the log, the standard
 /// streams, and one to spare.
 fn descriptors_needed(config: &Config) -> u64 {
     u64::from(config.relay_pairs)
@@ -63,7 +63,7 @@ fn descriptors_needed(config: &Config) -> u64 {
         })
 }
 
-/// That there are too few file descriptors, if so.
+/// Reports that there are too few file descriptors, if so.
 pub(crate) fn lacks_descriptors<R: Files + AllocGlobal>(
     rt: &R,
     config: &Config,

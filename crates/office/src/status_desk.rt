@@ -1,4 +1,4 @@
-//! What the server is, on its way to the thread of the page.
+//! The status of the server, on its way to the thread of the page.
 
 use crate::media_log::MediaLog;
 use agent::Agent;
@@ -7,16 +7,16 @@ use rtrb::{Consumer, Producer};
 use status::Status;
 use std::alloc::{AllocError, Global};
 
-/// So many milliseconds pass between two snapshots at least.
+/// How many milliseconds pass between two snapshots at least.
 const BETWEEN_SNAPSHOTS: u64 = 1_000;
 
 /// The end of the signalling, which never waits for the page.
 #[derive(Drop)]
 pub(crate) struct StatusDesk {
     alloc: Global,
-    /// A byte for each time that somebody asked.
+    /// A byte for each request for the page.
     asked: Consumer<u8>,
-    /// What time it is, in milliseconds.
+    /// The current time, in milliseconds.
     moments: Producer<u64>,
     statuses: Producer<Status>,
     lines: Producer<u8>,
@@ -51,8 +51,8 @@ impl StatusDesk {
         }
     }
 
-    /// Tells what time it is, in milliseconds, and hands a snapshot of this moment over, where somebody asked and it is
-    /// time for one. Where memory is refused, none is made.
+    /// Passes on the current time, in milliseconds, and a snapshot of this moment, if one was asked for and it is
+    /// time for one. If memory is refused, none is made.
     pub(crate) fn look(&mut self, agent: &Agent, media: &mut MediaLog, now: u64) {
         let _ = self.moments.push(now);
         if now < self.next || self.asked.pop().is_err() {
@@ -64,7 +64,7 @@ impl StatusDesk {
         }
     }
 
-    /// Hands lines of the log over. Those that find no room are left out of the page.
+    /// Passes on lines of the log. Those that find no room are left out of the page.
     pub(crate) fn put_lines(&mut self, lines: &[u8]) {
         let _ = self.lines.push_entire_slice(lines);
     }

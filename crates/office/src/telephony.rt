@@ -38,28 +38,28 @@ use std::thread::Threads;
 use std::time::Duration;
 use std::{io, thread};
 
-/// So many milliseconds the signalling waits for the workers to begin, and so many between two looks.
+/// How many milliseconds the signalling waits for the workers to begin; below it, how many pass between two looks.
 const TIME_TO_BEGIN: u64 = 5_000;
 
 const BETWEEN_LOOKS: u64 = 10;
 
-/// So many bytes of lines wait to be written at most: those of events, and those of the socket for SIP.
+/// How many bytes of lines wait to be written at most: those of events, and those of the socket for SIP.
 const ROOM_OF_EVENTS: usize = 262_144;
 
 const ROOM_OF_SENDING: usize = 16_384;
 
-/// So many bytes of lines wait for the page at most.
+/// How many bytes of lines wait for the page at most.
 const ROOM_OF_PAGE: usize = 65_536;
 
-/// Serves by the sockets, the clock and the threads of a runtime.
+/// Serves with the sockets, the clock and the threads of a runtime.
 #[derive(Drop)]
 pub(crate) struct Telephony<'a, R> {
     pub(crate) rt: &'a R,
-    /// Where the file of the configuration is, which is looked at while telephones are served.
+    /// The path of the configuration's file, which is checked while telephones are served.
     pub(crate) path: Option<String>,
-    /// What was asked last. Only clauses read it.
+    /// What was asked for last. Only clauses read it.
     pub(crate) request: Option<(Snapshot<Config>, Option<u64>)>,
-    /// Why no sockets were opened, where none were.
+    /// Why no sockets were opened, if none were.
     pub(crate) refusal: Option<Refusal>,
 }
 
@@ -79,7 +79,7 @@ fn host_fault(error: io::Error) -> HostFault {
     }
 }
 
-/// The signalling until its end, which ends the workers too.
+/// Runs the signalling until its end, which ends the workers too.
 fn signal<R: Wait, W: Wire, M: Moments, O: Operator>(
     rt: &R,
     signalling: &mut Signalling<W>,
@@ -95,7 +95,7 @@ fn signal<R: Wait, W: Wire, M: Moments, O: Operator>(
     end
 }
 
-/// The workers until their end, which ends the signalling too. Whether memory was refused.
+/// Runs the workers until their end, which ends the signalling too. Returns whether memory was refused.
 fn relay_media<R: Threads + Wait + Sync>(
     rt: &R,
     workers: Vec<Worker<MediaSockets>>,
@@ -119,7 +119,8 @@ fn write_log<R: Wait>(rt: &R, writer: LogWriter, begun: &AtomicUsize, is_over: &
     writer.run(rt, is_over);
 }
 
-/// Waits until so many threads have begun. Whether they have, in time: a thread that can't be made begins nothing.
+/// Waits until `count` threads have begun. Returns whether they have, in time: a thread that can't be made begins
+/// nothing.
 fn have_begun<W: Wire, M: Moments>(
     wire: &mut W,
     watch: &mut M,
@@ -139,7 +140,7 @@ fn have_begun<W: Wire, M: Moments>(
     false
 }
 
-/// How the end of the signalling counts: its flag was set from outside only where the workers ended.
+/// How the end of the signalling counts: its flag was set from outside only if the workers ended.
 fn outcome(end: End, refused: bool) -> Result<(), HostFault> {
     match end {
         End::Turns => Ok(()),
@@ -149,7 +150,7 @@ fn outcome(end: End, refused: bool) -> Result<(), HostFault> {
     }
 }
 
-/// A line that tells how events were answered.
+/// Writes a line that says how events were answered.
 fn report<R: Eprint>(rt: &R, alloc: Global, tally: Tally) {
     if let Ok(line) = counts_line(alloc, tally) {
         let _ = eprint!(rt; "{line}");
@@ -177,8 +178,8 @@ fn rings_to(
     ))
 }
 
-/// The signalling and the workers until their end: whether memory was refused to the workers, and how the signalling
-/// ended.
+/// Runs the signalling and the workers until their end. Returns whether memory was refused to the workers, and how
+/// the signalling ended.
 fn serve_calls<R: Threads + Wait + Sync, A: Announcer, W: Wire, M: Moments, O: Operator>(
     rt: &R,
     announcer: &A,
@@ -241,8 +242,8 @@ fn serve_beside_page<R: Threads + Wait + Sync, A: Announcer, W: Wire, M: Moments
     ended
 }
 
-/// Serves on a board to which nothing was published, once each worker has a thread, and ends it. Gives how events were
-/// answered, too.
+/// Serves on a board to which nothing was published, once each worker has a thread, and ends it. Also returns how
+/// events were answered.
 fn serve_on<R: Threads + Wait + Sync, A: Announcer, W: Wire + Drop, M: Moments, O: Operator>(
     rt: &R,
     announcer: &A,
@@ -309,7 +310,7 @@ fn desks(alloc: Global, started: u64) -> Result<(StatusDesk, PageDesk), AllocErr
     Ok((desk, page))
 }
 
-/// The end of the signalling, and what the page's thread has, where there is a page.
+/// The end of the signalling, and what the page's thread has, if there is a page.
 fn page_of(
     alloc: Global,
     server: Option<PageServer>,
@@ -322,7 +323,7 @@ fn page_of(
     Ok((Some(status), Some(Page { server, desk })))
 }
 
-/// What the signalling has of the file of this path, where there is one.
+/// What the signalling has of the file at this path, if there is one.
 fn user_desk(
     alloc: Global,
     path: Option<String>,
@@ -337,7 +338,7 @@ fn user_desk(
     }
 }
 
-/// The board with the rest of the signalling, and a worker for each viewer, where all sockets are open.
+/// The board with the rest of the signalling, and a worker for each viewer, if all sockets are open.
 fn parts_of<R: Wait>(
     rt: &R,
     alloc: Global,

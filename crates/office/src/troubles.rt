@@ -14,22 +14,22 @@ use sip_uri::Addr;
 use std::alloc::Global;
 use std::fs::Files;
 
-/// Tells it to whoever reads the log.
+/// Writes it to the log.
 #[derive(Drop)]
 pub(crate) struct Troubles<'a, R> {
     rt: &'a R,
     told: Option<Trouble>,
     /// The news that it handed in. Only clauses read it.
     handed: NewsLog,
-    /// A call whose media stand still for so many minutes is silent.
+    /// A call without media for this many minutes is silent.
     silent_minutes: Option<u32>,
     level: LogLevel,
     alloc: Global,
     lines: LogLines,
     log: EventLog,
-    /// Where a page is served.
+    /// Where a page is served, if one is.
     desk: Option<StatusDesk>,
-    /// Where the file of the configuration is looked at.
+    /// The check of the configuration's file, if there is a file.
     users: Option<UserDesk>,
 }
 
@@ -67,7 +67,7 @@ impl<'a, R: Files + AllocGlobal> Troubles<'a, R> {
         }
     }
 
-    /// Hands lines over, each with its end: to the log, and to the page, where there is one.
+    /// Passes lines on, each with its end: to the log, and to the page, if there is one.
     fn hand_over(&mut self, lines: &[u8])
         ensures told { self.new.told ≡ self.old.told }
         ensures handed { self.new.handed ≡ self.old.handed }
@@ -78,7 +78,7 @@ impl<'a, R: Files + AllocGlobal> Troubles<'a, R> {
         }
     }
 
-    /// Looks at the file of the configuration, where it is time, and tells of it.
+    /// Checks the file of the configuration, if it is time, and logs what changed.
     fn look_at_file(&mut self, now: u64)
         ensures told { self.new.told ≡ self.old.told }
         ensures handed { self.new.handed ≡ self.old.handed }
@@ -90,7 +90,7 @@ impl<'a, R: Files + AllocGlobal> Troubles<'a, R> {
         }
     }
 
-    /// A silent call, or else other users.
+    /// A silent call, or otherwise other users.
     fn find_news(&mut self, now: u64) -> Option<News>
         ensures told { self.new.told ≡ self.old.told }
         ensures handed { self.new.handed ≡ self.old.handed }
@@ -104,7 +104,7 @@ impl<'a, R: Files + AllocGlobal> Troubles<'a, R> {
         Some(News::Users(users))
     }
 
-    /// The agent took the event of a round: tells of the users that it has from now on, where it was that.
+    /// The agent took the event of a round: logs the users that it has from now on, if the event was about that.
     fn settle_users(&mut self)
         ensures told { self.new.told ≡ self.old.told }
         ensures handed { self.new.handed ≡ self.old.handed }
@@ -117,7 +117,7 @@ impl<'a, R: Files + AllocGlobal> Troubles<'a, R> {
         }
     }
 
-    /// Tells the page what the server is, where somebody asked.
+    /// Passes the server's status to the page, if it was asked for.
     fn look_at(&mut self, agent: &Agent, now: u64)
         ensures told { self.new.told ≡ self.old.told }
         ensures handed { self.new.handed ≡ self.old.handed }

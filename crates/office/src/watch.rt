@@ -10,9 +10,9 @@ use std::time::Duration;
 pub(crate) struct Watch<'a, R> {
     rt: &'a R,
     start: Duration,
-    /// What it told last: a clock that fails stands still.
+    /// The last moment that it gave: a clock that fails stays there.
     last: u64,
-    /// The moments that it told. Only clauses read it.
+    /// The moments that it gave. Only clauses read it.
     told: NumberLog,
 }
 

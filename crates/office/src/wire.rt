@@ -11,8 +11,8 @@ use sockets::{Refusal, Refusals, SipSocket};
 use std::alloc::{AllocError, Global};
 use std::io::ErrorKind;
 
-/// Hands what it is asked on to the socket. Where the system refuses to send to an address, a line of the log tells it
-/// as that begins, and one as it ends.
+/// Passes what it is asked on to the socket. If the system refuses to send to an address, a line is logged when that
+/// begins, and another when it ends.
 #[derive(Drop)]
 pub(crate) struct SipWire {
     alloc: Global,
@@ -25,7 +25,7 @@ pub(crate) struct SipWire {
     pub(crate) waited: NumberLog,
 }
 
-/// The line of a refusal that begins.
+/// The line for a refusal that begins.
 fn begin_line(alloc: Global, refusal: Refusal) -> Result<String, AllocError> {
     let Refusal { to, why } = refusal;
     let Addr { ip, port } = to;
@@ -33,7 +33,7 @@ fn begin_line(alloc: Global, refusal: Refusal) -> Result<String, AllocError> {
     format!(in alloc; "office: trouble: sending to {a}.{b}.{c}.{d}:{port} is refused: {why}\n")
 }
 
-/// The line of one that ends.
+/// The line for one that ends.
 fn end_line(alloc: Global, refusal: Refusal) -> Result<String, AllocError> {
     let Addr { ip, port } = refusal.to;
     let [a, b, c, d] = ip;
@@ -58,7 +58,7 @@ impl SipWire {
         })
     }
 
-    /// Hands a line over, unless nothing is told.
+    /// Passes a line on, unless nothing is logged.
     fn put(&mut self, line: Result<String, AllocError>)
         ensures socket { self.new.socket ≡ self.old.socket }
         ensures rooms { self.new.rooms.entries ≡ self.old.rooms.entries }

@@ -10,7 +10,7 @@ held_of c = record { since = c.since; patience = patience_of c.stage }
 abbrev pub IsTimelyNow : ℕ → Connection → Type 0
 IsTimelyNow now c = IsTimely now (held_of c)
 
--- before its time is up a connection stays as it is; behind that it is refused
+-- before its time is up, a connection stays as it is; after that it is refused
 pub record IsWithinTime (now : ℕ) (before behind : Connection) : Type 0 where
   pub stays : IsTimely now (held_of before) → behind ≡ before
   pub refused : before.since + patience_of before.stage ≤ now → IsSomeAnd (refusal_of before.stage) (λ r. behind.stage ≡ refused r)

@@ -1,4 +1,4 @@
--- Bytes that come from a client and go to it.
+-- Bytes from and to a client.
 use Rattle.std.specs.Prelude.{ℕ, ⊤}
 use Rattle.page_server.specs.declared.flow.Flow.{Flow}
 use Rattle.page_server.specs.declared.flow.Flow.TheVariants.{Gone, Stuck, Ended}

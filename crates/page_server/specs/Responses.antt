@@ -22,7 +22,7 @@ status_of RequestTimeout = codes "408 Request Timeout"
 status_of HeadTooLarge = codes "431 Request Header Fields Too Large"
 status_of ServiceUnavailable = codes "503 Service Unavailable"
 
--- the methods, where another was asked for
+-- the methods, if another one was used
 abbrev pub allow_of : Refusal → List ℕ
 allow_of MethodNotAllowed = codes "Allow: GET\r\n"
 allow_of BadRequest = []
@@ -31,14 +31,15 @@ allow_of RequestTimeout = []
 allow_of HeadTooLarge = []
 allow_of ServiceUnavailable = []
 
--- the last response of its connection, which nobody keeps, and which a browser takes for nothing but what it says it is
+-- the last response of its connection, which is not to be cached, and which a browser treats as nothing but its
+-- declared type
 abbrev pub fixed_fields : List ℕ
 fixed_fields = codes "Connection: close\r\nCache-Control: no-store\r\nX-Content-Type-Options: nosniff\r\nContent-Security-Policy: default-src 'none'; style-src 'unsafe-inline'\r\n"
 
 unfoldable pub opening_text : List ℕ → List ℕ → List ℕ
 opening_text status further = codes "HTTP/1.1 " ++ status ++ codes "\r\n" ++ fixed_fields ++ further
 
--- the length of the content, the empty line behind the head, and the content
+-- the length of the content, the empty line after the head, and the content
 unfoldable pub content_text : List ℕ → List ℕ
 content_text body = codes "Content-Length: " ++ decimal (length body) ++ codes "\r\n\r\n" ++ body
 

@@ -1,4 +1,4 @@
--- How far a connection is, and how long it may stay so.
+-- The stages of a connection, and how long it may stay at each.
 use Rattle.std.specs.Prelude.{ℕ, List, Option, Some, None}
 use Rattle.page_server.specs.declared.head.Head.{Head}
 use Rattle.page_server.specs.declared.head.Head.TheVariants.{Incomplete, Asked, Refused}
@@ -15,18 +15,18 @@ patience_of (Waiting path) = 5000
 patience_of (Writing answer) = 5000
 patience_of Closing = 1000
 
--- what a client is told whose time is up, unless it has its response or a part of it
+-- the refusal for a client whose time is up, unless it has its response or a part of it
 abbrev pub refusal_of : Stage → Option Refusal
 refusal_of (Reading request) = Some RequestTimeout
 refusal_of (Waiting path) = Some ServiceUnavailable
 refusal_of (Writing answer) = None
 refusal_of Closing = None
 
--- a refusal is told from its beginning
+-- a refusal is sent from its beginning
 abbrev pub refused : Refusal → Stage
 refused refusal = Writing (unsent (refusal_text refusal))
 
--- what follows a request of which this is known
+-- the stage that follows when this is known of a request
 abbrev pub stage_behind : Head → List ℕ → Stage
 stage_behind Incomplete request = Reading request
 stage_behind (Asked path) request = Waiting path

@@ -1,4 +1,4 @@
-//! A response, and how much of it the client has.
+//! A response, and how much of it the client has received.
 
 ghost use Rattle.std.specs.Prelude.{◌≡◌, ◌≤◌, ◌+◌, ◌==◌, length, drop, IfOk};
 ghost use Rattle.page_server.specs.Responses.{page_text, refusal_text, unsent};
@@ -28,7 +28,7 @@ impl Model for Answer {
 }
 
 impl Answer {
-    /// The response with a page, of which nothing was sent.
+    /// The response with a page, of which nothing was sent yet.
     pub(crate) fn with_page(alloc: Global, path: Path, body: &[u8]) -> Result<Answer, AllocError>
         ensures { IfOk result (λ a. a ≡ unsent (page_text path body.now)) }
     {
@@ -37,7 +37,7 @@ impl Answer {
         Ok(Answer { text, sent: 0 })
     }
 
-    /// The response without a page, of which nothing was sent.
+    /// The response without a page, of which nothing was sent yet.
     pub(crate) fn with_refusal(alloc: Global, refusal: Refusal) -> Result<Answer, AllocError>
         ensures { IfOk result (λ a. a ≡ unsent (refusal_text refusal)) }
     {
@@ -53,7 +53,7 @@ impl Answer {
         &self.text[self.sent..]
     }
 
-    /// So many bytes more were sent.
+    /// This many more bytes were sent.
     pub(crate) fn advance(&mut self, count: usize)
         requires { count ≤ length (drop self.old.sent self.old.text) }
         ensures { self.new ≡ record self.old { sent = self.old.sent + count } }

@@ -13,7 +13,7 @@ use mio::net::TcpStream;
 use std::alloc::Global;
 use std::net::Shutdown;
 
-/// A connection, and since when it is at its stage, in milliseconds.
+/// A connection, and since when it has been at its stage, in milliseconds.
 #[derive(Drop)]
 pub(crate) struct Connection {
     pub(crate) stream: TcpStream,
@@ -38,7 +38,7 @@ pub(crate) fn is_waiting(connection: &Connection) -> bool {
     matches!(connection.stage, Stage::Waiting(_))
 }
 
-/// Reads on in a request. None where the client ended it, or memory is refused.
+/// Continues reading a request. None if the client ended it, or memory is refused.
 fn read_head<S: PageSource>(
     alloc: Global,
     source: &mut S,
@@ -65,7 +65,7 @@ fn read_head<S: PageSource>(
     })
 }
 
-/// Reads what has come. None where the connection is over.
+/// Reads what has come. None if the connection is over.
 fn read<S: PageSource>(
     alloc: Global,
     source: &mut S,
@@ -92,7 +92,7 @@ fn read<S: PageSource>(
     }
 }
 
-/// A connection whose time is up is refused, or over where it has its response or a part of it.
+/// A connection whose time is up is refused, or ended if it has its response or a part of it.
 fn within_time(alloc: Global, connection: Connection, now: u64) -> Option<Connection>
     ensures timely { IfSome result (λ c. IsTimely now (held_of c)) }
     ensures told { IfSome result (λ c. IsWithinTime now connection c) }
@@ -117,7 +117,7 @@ fn within_time(alloc: Global, connection: Connection, now: u64) -> Option<Connec
     })
 }
 
-/// A connection whose page is there is answered. None where memory is refused.
+/// Answers a connection whose page is ready. None if memory is refused.
 fn answer<S: PageSource>(
     alloc: Global,
     source: &mut S,
@@ -149,7 +149,7 @@ fn answer<S: PageSource>(
     }
 }
 
-/// Sends what the client takes now. None where it takes no more, and has not all.
+/// Sends what the client takes now. None if it takes no more before it has everything.
 fn write(connection: Connection, now: u64) -> Option<Connection>
     requires { IsTimely now (held_of connection) }
     ensures { IfSome result (λ c. IsTimely now (held_of c)) }
@@ -186,8 +186,8 @@ fn write(connection: Connection, now: u64) -> Option<Connection>
     }
 }
 
-/// Does what can be done at a connection now. None where it is over. Otherwise it has been at its stage for less than
-/// it may.
+/// Does what can be done at a connection now. None if it is over. Otherwise it has been at its stage for less than
+/// its limit.
 pub(crate) fn turn<S: PageSource>(
     alloc: Global,
     source: &mut S,

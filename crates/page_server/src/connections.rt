@@ -10,10 +10,10 @@ use std::alloc::{AllocError, Global};
 use std::marker::Model;
 use std::mem;
 
-/// So many connections there are at once.
+/// The maximum number of connections at once.
 const MAX_CONNECTIONS: usize = 32;
 
-/// All connections: not many.
+/// All connections, up to the maximum.
 #[derive(Drop)]
 pub(crate) struct Connections {
     all: Vec<Connection>,
@@ -31,7 +31,7 @@ impl Model for Connections {
     ghost invariant = { λ c. length c.all.items ≤ max_connections };
 }
 
-/// One more, behind the others. Where memory is refused, it is let go.
+/// One more, after the others. If memory is refused, it is dropped.
 fn keep(kept: &mut Vec<Connection>, connection: Connection) -> Result<(), AllocError>
     ensures ok { OnOk result (kept.new.items ≡ kept.old.items ++ connection ∷ []) }
     ensures err { OnErr result (kept.new.items ≡ kept.old.items) }
@@ -48,7 +48,7 @@ fn keep(kept: &mut Vec<Connection>, connection: Connection) -> Result<(), AllocE
     }
 }
 
-/// Does what can be done at each of these now, and gives those that are left.
+/// Does what can be done at each of these now, and returns those that are left.
 fn turn_all<S: PageSource>(
     alloc: Global,
     source: &mut S,
@@ -68,7 +68,7 @@ fn turn_all<S: PageSource>(
 }
 
 impl Connections {
-    /// None. Takes no memory.
+    /// No connections. Takes no memory.
     pub(crate) fn new(alloc: Global) -> Connections
         ensures { result ≡ [] }
     {
@@ -89,7 +89,7 @@ impl Connections {
         self.all.iter().any(is_waiting)
     }
 
-    /// One more. Where memory is refused, it is let go.
+    /// One more. If memory is refused, it is dropped.
     pub(crate) fn add(&mut self, connection: Connection) -> Result<(), AllocError>
         requires { length self.old < max_connections }
         ensures ok { OnOk result (self.new ≡ self.old ++ held_of connection ∷ []) }
@@ -98,7 +98,7 @@ impl Connections {
         keep(&mut self.all, connection)
     }
 
-    /// Does what can be done at each now. Those that are left have been at their stages for less than they may.
+    /// Does what can be done at each now. Those that are left have been at their stages for less than their limits.
     pub(crate) fn turn<S: PageSource>(&mut self, alloc: Global, source: &mut S, now: u64)
         ensures timely { All (IsTimely now) self.new }
         ensures fewer { length self.new ≤ length self.old }

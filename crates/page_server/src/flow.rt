@@ -1,4 +1,4 @@
-//! Bytes that come from a client and go to it, as far as both sides take them now.
+//! Bytes from and to a client, as far as both sides take them now.
 
 ghost use Rattle.std.specs.Prelude.{◌≡◌, ◌≤◌, ◌-◌, ℕ, length, IfOk};
 ghost use Rattle.page_server.specs.Flows.{IfGone};
@@ -9,7 +9,7 @@ use std::alloc::AllocError;
 use std::io;
 use std::io::{ErrorKind, Read, Write};
 
-/// So many bytes are read at once; so many reads a turn has, and so many writes.
+/// How many bytes are read at once; below it, how many reads and writes a turn has at most.
 const BLOCK: usize = 2_048;
 
 const MAX_READS: u32 = 16;
@@ -18,11 +18,11 @@ const MAX_WRITES: u32 = 16;
 
 /// What a read or a write did.
 enum Flow {
-    /// So many bytes went.
+    /// This many bytes went.
     Gone(usize),
-    /// None goes now.
+    /// No byte goes now.
     Stuck,
-    /// None will go any more.
+    /// No byte will go any more.
     Ended,
 }
 
@@ -51,7 +51,7 @@ fn write_flow<W: Write>(stream: &mut W, bytes: &[u8]) -> Flow
     flow_of(stream.write(bytes))
 }
 
-/// Reads what has come of a request. Whether more may come.
+/// Reads what has come of a request. Returns whether more may come.
 pub(crate) fn read_request<R: Read>(
     stream: &mut R,
     request: &mut Request,
@@ -67,7 +67,7 @@ pub(crate) fn read_request<R: Read>(
     Ok(true)
 }
 
-/// Reads what has come, and lets it go. Whether more may come.
+/// Reads what has come, and drops it. Returns whether more may come.
 pub(crate) fn read_away<R: Read>(stream: &mut R) -> bool {
     let mut block = [0u8; BLOCK];
     for _ in 0..MAX_READS {
@@ -80,7 +80,7 @@ pub(crate) fn read_away<R: Read>(stream: &mut R) -> bool {
     true
 }
 
-/// Sends of an answer what the client takes now. Whether it may take more.
+/// Sends as much of an answer as the client takes now. Returns whether it may take more.
 pub(crate) fn write_answer<W: Write>(stream: &mut W, answer: &mut Answer) -> bool
     ensures text { answer.new.text ≡ answer.old.text }
     ensures sent { answer.old.sent ≤ answer.new.sent }

@@ -8,15 +8,15 @@ use crate::refusal::Refusal;
 use httparse::spans::{EMPTY_HEADER_SPAN, parse_request};
 use httparse::{Error, Status};
 
-/// So many bytes a head has at most, and so many header fields.
+/// The maximum length of a head in bytes, and below it, the maximum number of header fields.
 pub(crate) const MAX_HEAD: usize = 8_192;
 
 const MAX_FIELDS: usize = 64;
 
-/// What is known of a request by the bytes that have come.
+/// What is known of a request from the bytes that have come.
 #[derive(Clone, Copy, Debug)]
 pub enum Head {
-    /// Its head has not come whole.
+    /// Its head is not complete yet.
     Incomplete,
     Asked(Path),
     Refused(Refusal),
@@ -33,8 +33,7 @@ fn asked_by(method: &[u8], target: &[u8]) -> Head
     }
 }
 
-/// What is known of a request by the bytes that have come, of which those behind its head say nothing. Takes no
-/// memory.
+/// What is known of a request from the bytes that have come; those after its head are ignored. Takes no memory.
 pub fn judge(bytes: &[u8]) -> Head
     ensures { IsHeadOf bytes.now result }
 {

@@ -1,5 +1,6 @@
-//! A server of three pages over HTTP/1.1, which one thread runs. It knows nothing of what it serves: whoever runs it
-//! hands that in. It reads the heads of requests alone, answers one a connection, and keeps no connection long.
+//! A server of three pages over HTTP/1.1, which one thread runs. It knows nothing of what it serves: its caller
+//! provides that. It reads only the heads of requests, answers one request per connection, and keeps no connection
+//! long.
 #![tactic(auto)]
 
 mod answer;

@@ -31,7 +31,7 @@ fn path_named(text: &[u8]) -> Option<Path>
     }
 }
 
-/// What a request's target names, whatever query stands behind it.
+/// What a request's target names, whatever query follows it.
 pub(crate) fn path_of(target: &[u8]) -> Option<Path>
     ensures { result ≡ path_of target.now }
 {

@@ -14,7 +14,7 @@ pub enum Refusal {
     ServiceUnavailable,
 }
 
-/// The status with its reason phrase.
+/// The status code and its reason phrase.
 pub(crate) fn status_of(refusal: Refusal) -> &'static [u8]
     ensures { result.now ≡ status_of refusal }
 {
@@ -28,7 +28,7 @@ pub(crate) fn status_of(refusal: Refusal) -> &'static [u8]
     }
 }
 
-/// The header field that a refusal has beside those of each response: the methods, where another was asked for.
+/// The header field that a refusal has besides those of each response: the methods, if another one was used.
 pub(crate) fn allow_of(refusal: Refusal) -> &'static [u8]
     ensures { result.now ≡ allow_of refusal }
 {

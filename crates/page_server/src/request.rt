@@ -1,4 +1,4 @@
-//! The bytes of a request that have come.
+//! The bytes received of a request.
 
 ghost use Rattle.std.specs.Prelude.{◌≡◌, ◌≤◌, ◌++◌, [], take, vec_len, OnErr, OnOk};
 ghost use Rattle.page_server.specs.Requests.{IsHeadOf, max_head};
@@ -7,7 +7,7 @@ use crate::head::{Head, MAX_HEAD, judge};
 use std::alloc::{AllocError, Global};
 use std::marker::Model;
 
-/// The bytes of a request that have come: at most as many as a head may have.
+/// The bytes received of a request: at most as many as a head may have.
 #[derive(Drop)]
 pub(crate) struct Request {
     bytes: Vec<u8>,
@@ -24,7 +24,7 @@ impl Model for Request {
     ghost invariant = { λ r. length r.bytes.items ≤ max_head };
 }
 
-/// Puts behind the kept bytes what there is room for.
+/// Appends as many of the bytes to the kept ones as there is room for.
 fn keep(kept: &mut Vec<u8>, bytes: &[u8]) -> Result<(), AllocError>
     requires { vec_len kept.old ≤ max_head }
     ensures ok { OnOk result (kept.new.items ≡ take max_head (kept.old.items ++ bytes.now)) }
@@ -41,7 +41,7 @@ fn keep(kept: &mut Vec<u8>, bytes: &[u8]) -> Result<(), AllocError>
 }
 
 impl Request {
-    /// Nothing has come. Takes no memory.
+    /// No byte has come. Takes no memory.
     pub(crate) fn new(alloc: Global) -> Request
         ensures { result ≡ [] }
     {
@@ -50,7 +50,7 @@ impl Request {
         }
     }
 
-    /// These bytes came. What is behind the most that a head may have is let go.
+    /// These bytes came. Those beyond the maximum length of a head are dropped.
     pub(crate) fn add(&mut self, bytes: &[u8]) -> Result<(), AllocError>
         ensures ok { OnOk result (self.new ≡ take max_head (self.old ++ bytes.now)) }
         ensures err { OnErr result (self.new ≡ self.old) }

@@ -1,4 +1,4 @@
-//! Responses as they are sent.
+//! Responses in the form in which they are sent.
 
 ghost use Rattle.std.specs.Prelude.{◌≡◌, ◌++◌, OnOk};
 ghost use Rattle.page_server.specs.Responses.{content_text, opening_text, page_text, refusal_text};
@@ -8,8 +8,8 @@ use crate::refusal::{Refusal, allow_of, kind_of_refusals, status_of};
 use std::alloc::AllocError;
 use text::put_number;
 
-/// What each response says: it is the last of its connection, nobody keeps it, and a browser takes it for nothing but
-/// what it says it is, which has no script and fetches nothing.
+/// What each response says: it is the last of its connection, it is not to be cached, and a browser treats it as
+/// nothing but its declared type, without scripts and without fetching anything.
 const FIXED_FIELDS: &[u8] =
     b"Connection: close\r\nCache-Control: no-store\r\nX-Content-Type-Options: nosniff\r\nContent-Security-Policy: default-src 'none'; style-src 'unsafe-inline'\r\n";
 
@@ -25,7 +25,7 @@ fn put_opening(out: &mut Vec<u8>, status: &[u8], further: &[u8]) -> Result<(), A
     Ok(())
 }
 
-/// The length, the empty line behind it, and the content.
+/// The length, the empty line after it, and the content.
 #[tactic(auto, unfolding(crate::specs::Responses::content_text))]
 fn put_content(out: &mut Vec<u8>, body: &[u8]) -> Result<(), AllocError>
     ensures { OnOk result (out.new.items ≡ out.old.items ++ content_text body.now) }
@@ -37,7 +37,7 @@ fn put_content(out: &mut Vec<u8>, body: &[u8]) -> Result<(), AllocError>
     Ok(())
 }
 
-/// Writes the response with a page behind what is there. Where memory runs out, a part may be written there.
+/// Appends the response with a page. If memory runs out, a part may be written.
 #[tactic(auto, unfolding(crate::specs::Responses::page_text))]
 pub fn put_page(out: &mut Vec<u8>, path: Path, body: &[u8]) -> Result<(), AllocError>
     ensures { OnOk result (out.new.items ≡ out.old.items ++ page_text path body.now) }
@@ -47,8 +47,7 @@ pub fn put_page(out: &mut Vec<u8>, path: Path, body: &[u8]) -> Result<(), AllocE
     put_content(out, body)
 }
 
-/// Writes the response without a page, which has no content, behind what is there. Where memory runs out, a part may be
-/// written there.
+/// Appends the response without a page, which has no content. If memory runs out, a part may be written.
 #[tactic(auto, unfolding(crate::specs::Responses::refusal_text))]
 pub fn put_refusal(out: &mut Vec<u8>, refusal: Refusal) -> Result<(), AllocError>
     ensures { OnOk result (out.new.items ≡ out.old.items ++ refusal_text refusal) }

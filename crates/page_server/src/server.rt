@@ -15,21 +15,21 @@ use std::marker::Model;
 use std::net::{Ipv4Addr, Net, SocketAddr};
 use std::time::Duration;
 
-/// So many connections are taken or let go in a turn.
+/// How many connections are accepted or dropped in a turn at most.
 const MAX_ARRIVALS: u32 = 256;
 
-/// So many events are told at once. All connections are tried in each turn, whatever the events say.
+/// How many events are reported at once. All connections are tried in each turn, whatever the events say.
 const MAX_EVENTS: usize = 64;
 
-/// So many milliseconds a turn waits at most while a page is being made.
+/// How many milliseconds a turn waits at most while a page is being made.
 const SHORT_WAIT: u64 = 10;
 
 const LISTENER: Token = Token(0);
 
 const CLIENT: Token = Token(1);
 
-/// A server of pages. Contracts see what it holds: each connection, with since when it is at its stage, and how long it
-/// may stay so.
+/// A server of pages. Contracts see what it holds: each connection, with since when it has been at its stage, and how
+/// long it may stay there.
 #[derive(Drop)]
 pub struct PageServer {
     alloc: Global,
@@ -55,7 +55,7 @@ fn to_system(addr: Addr) -> SocketAddr {
     SocketAddr::from((Ipv4Addr::new(a, b, c, d), addr.port))
 }
 
-/// A connection joins, if there is room for it.
+/// Adds a connection, if there is room for it.
 fn admit(
     alloc: Global,
     poll: &Poll,
@@ -72,7 +72,7 @@ fn admit(
     }
 }
 
-/// Takes the connections that wait. Those for which there is no room are let go at once.
+/// Accepts the waiting connections. Those for which there is no room are dropped at once.
 fn accept(
     alloc: Global,
     listener: &TcpListener,
@@ -89,7 +89,7 @@ fn accept(
 }
 
 impl PageServer {
-    /// Listens at this address. Err is the system's refusal, or that memory is refused.
+    /// Listens at this address. Err is the system's refusal, or a lack of memory.
     pub fn bind<R: Net>(rt: &R, alloc: Global, at: Addr) -> io::Result<PageServer>
         ensures { IfOk result (λ server. server ≡ []) }
     {
@@ -106,9 +106,9 @@ impl PageServer {
         })
     }
 
-    /// Waits until something can be done, so many milliseconds at most, and does it at each connection. The moment is
-    /// in milliseconds, and at most a turn old. Err is the system's refusal to wait: nothing was done then. Where
-    /// memory is refused, the connection that it was for is let go.
+    /// Waits until something can be done, at most `wait_millis` milliseconds, and does it at each connection. `now`
+    /// is in milliseconds, and at most a turn old. Err is the system's refusal to wait: nothing was done then. If
+    /// memory is refused, the connection that needed it is dropped.
     pub fn turn<S: PageSource>(
         &mut self,
         source: &mut S,

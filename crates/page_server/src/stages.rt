@@ -1,4 +1,4 @@
-//! How far a connection is, and how long it may stay so.
+//! The stages of a connection, and how long it may stay at each.
 
 ghost use Rattle.std.specs.Prelude.{◌≡◌, ◌+◌, ◌<◌, ◌≤◌, ◌↔◌, ◌++◌, List, ℕ, IsTrue, IfOk};
 ghost use Rattle.page_server.specs.Responses.{page_text, unsent};
@@ -13,27 +13,27 @@ use crate::request::Request;
 use crate::source::PageSource;
 use std::alloc::{AllocError, Global};
 
-/// So many milliseconds a head may take to come, a page to be made, and a response to be taken.
+/// How many milliseconds a head may take to come, a page to be made, and a response to be taken.
 const PATIENCE: u64 = 5_000;
 
-/// So many milliseconds a client has to end a connection that it was answered on. Where the server ends it while bytes
-/// come, the client's system may let go of the response.
+/// How many milliseconds a client has to end a connection after its response was sent. If the server ends it while
+/// bytes still come, the client's system may discard the response.
 const LINGER: u64 = 1_000;
 
-/// How far a connection is.
+/// The stage of a connection.
 #[derive(Drop)]
 pub(crate) enum Stage {
-    /// The head of its request comes.
+    /// The head of its request is being received.
     Reading(Request),
     /// Its request has come, and its page is being made.
     Waiting(Path),
-    /// It is sent its response.
+    /// Its response is being sent.
     Writing(Answer),
-    /// It was sent its response.
+    /// Its response was sent.
     Closing,
 }
 
-/// How long a connection may stay so, in milliseconds.
+/// How long a connection may stay at this stage, in milliseconds.
 fn patience_of(stage: &Stage) -> u64
     ensures patience { result ≡ patience_of stage.now }
     ensures some { 0 < result }
@@ -44,14 +44,15 @@ fn patience_of(stage: &Stage) -> u64
     }
 }
 
-/// Whether a connection that is so since a moment has been so for too long. Moments are in milliseconds.
+/// Whether a connection that has been at a stage since a moment has been there for too long. Moments are in
+/// milliseconds.
 pub(crate) fn is_due(stage: &Stage, since: u64, now: u64) -> bool
     ensures { IsTrue result ↔ (since + patience_of stage.now ≤ now) }
 {
     now.saturating_sub(since) >= patience_of(stage)
 }
 
-/// What a client is told whose time is up. None where it has its response, or a part of it.
+/// The refusal for a client whose time is up. None if it has its response, or a part of it.
 pub(crate) fn refusal_of(stage: &Stage) -> Option<Refusal>
     ensures { result ≡ refusal_of stage.now }
 {
@@ -62,14 +63,14 @@ pub(crate) fn refusal_of(stage: &Stage) -> Option<Refusal>
     }
 }
 
-/// A refusal, of which nothing was told.
+/// A refusal, of which nothing was sent yet.
 pub(crate) fn refused(alloc: Global, refusal: Refusal) -> Result<Stage, AllocError>
     ensures { IfOk result (λ stage. stage ≡ refused refusal) }
 {
     Ok(Stage::Writing(Answer::with_refusal(alloc, refusal)?))
 }
 
-/// What follows a request of which this is known.
+/// The stage that follows when this is known of a request.
 pub(crate) fn stage_behind(alloc: Global, head: Head, request: Request) -> Result<Stage, AllocError>
     ensures { IfOk result (λ stage. stage ≡ stage_behind head request) }
 {
@@ -80,7 +81,7 @@ pub(crate) fn stage_behind(alloc: Global, head: Head, request: Request) -> Resul
     }
 }
 
-/// The page of a path, of which nothing was told.
+/// The page of a path, of which nothing was sent yet.
 pub(crate) fn answered<S: PageSource>(
     alloc: Global,
     source: &mut S,

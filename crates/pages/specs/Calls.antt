@@ -1,4 +1,4 @@
--- The calls on the page, with what their media say.
+-- The calls on the page, with the state of their media.
 use Rattle.std.specs.Prelude.{ℕ, ◌-◌, ◌==◌, ◌&&◌, Bool, true, false, List, ◌++◌, [], ◌∷◌, length, Option, Some, None, codes, decimal, if◌then◌else◌}
 use Rattle.std.specs.List.{flat_map, list_any}
 use Rattle.pages.specs.Escape.{html}
@@ -45,18 +45,18 @@ is_talking Answered = false
 is_talking Changing = false
 is_talking Ending = false
 
--- from which ends media should come: both talk, and a medium goes that way
+-- from which ends media should come: both ends talk, and a medium goes that way
 abbrev pub expected_ends : CallStatus → Expected
 expected_ends call = record {
   caller = is_talking call.phase && list_any (λ m. comes_from_caller m.direction) call.media;
   callee = is_talking call.phase && list_any (λ m. comes_from_callee m.direction) call.media;
 }
 
--- an end from which media should come sent nothing lately
+-- an end from which media should come sent nothing recently
 abbrev pub recent_cell : Bool → ℕ → List ℕ
 recent_cell is_expected recent = if is_expected && recent == 0 then codes "<td class=\"silent\">" else codes "<td>"
 
--- in the last ten seconds, and in all
+-- in the last ten seconds, and in total
 abbrev pub flow_cells : Bool → Flow → List ℕ
 flow_cells is_expected flow = together (
     recent_cell is_expected flow.recent ∷ decimal flow.recent ∷ codes "</td><td>" ∷ decimal flow.total ∷

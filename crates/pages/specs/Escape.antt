@@ -1,17 +1,17 @@
--- Texts of others, where they stand in a page.
+-- Texts from outside, as they are placed in a page.
 use Rattle.std.specs.Prelude.{◌==◌, ◌+◌, ◌/◌, ◌%◌, ℕ, Bool, ◌&&◌, nat_le, nat_lt, List, [], ◌∷◌, ◌++◌, codes, if◌then◌else◌}
 use Rattle.std.specs.List.{flat_map}
 use Rattle.pages.specs.declared.escape.Place.{Place}
 use Rattle.pages.specs.declared.escape.Place.TheVariants.{Html, Json, Label}
 
--- a printable sign of ASCII, or the space
+-- a printable character of ASCII, or the space
 abbrev pub is_printable : ℕ → Bool
 is_printable b = nat_le 32 b && nat_lt b 127
 
 abbrev pub hex_digit : ℕ → ℕ
 hex_digit n = if nat_lt n 10 then 48 + n else 87 + n
 
--- what stands before the two digits of a byte that is not printed
+-- what comes before the two digits of a byte that is not printed
 abbrev pub unprinted : Place → List ℕ
 unprinted Html = codes "\\x"
 unprinted Json = codes "\\u00"
@@ -41,7 +41,7 @@ escaped_byte Html b = html_byte b
 escaped_byte Json b = quoted_byte Json b
 escaped_byte Label b = quoted_byte Label b
 
--- a text of others
+-- a text from outside
 abbrev pub escaped : Place → List ℕ → List ℕ
 escaped place text = flat_map (escaped_byte place) text
 

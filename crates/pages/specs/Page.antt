@@ -28,11 +28,11 @@ numbers status = limits_table status ++ events_table status.events
 unfoldable pub page_foot : List (List ℕ) → List ℕ
 page_foot log = log_text log ++ codes "</body>\n</html>\n"
 
--- all behind the start
+-- all after the start
 unfoldable pub page_body : Overview → List ℕ
 page_body overview = up_text overview.status.now.moment ++ standing overview.status.now ++ numbers overview.status.now ++ page_foot overview.log.now
 
--- the page of an overview was written behind what was there
+-- the page of an overview was appended to what was there
 abbrev pub IsPage : Overview → List ℕ → List ℕ → Type 0
 IsPage overview before behind =
     (start : List ℕ) × IsStart overview.started start × (behind ≡ before ++ (page_top overview.version.now ++ start ++ page_body overview))

@@ -6,7 +6,7 @@ use Rattle.pages.specs.declared.escape.Place.{Place}
 use Rattle.pages.specs.declared.piece.Piece.{Piece}
 use Rattle.pages.specs.declared.piece.Piece.TheVariants.{Markup, Text, Number, Duration}
 
--- texts, one behind the other
+-- texts, one after the other
 abbrev pub together : List (List ℕ) → List ℕ
 together [] = []
 together (text ∷ texts) = text ++ together texts
@@ -19,7 +19,7 @@ abbrev pub listed : {X : Type 0} → (X → List ℕ) → List X → List ℕ
 listed f [] = []
 listed f (x ∷ xs) = f x ++ flat_map (behind_comma f) xs
 
--- a part of a duration, where the whole has so many seconds at least
+-- a part of a duration, if the whole has at least `least` seconds
 abbrev pub part_text : ℕ → ℕ → ℕ → List ℕ → List ℕ
 part_text seconds least part unit = if nat_lt seconds least then [] else decimal part ++ unit
 

@@ -9,6 +9,6 @@ IsStart seconds text =
     ((date : Date) × (unix_secs date ≡ seconds) × (text ≡ date_text date))
     ⊎ ((253402300800 ≤ seconds) × (text ≡ decimal seconds))
 
--- it was written behind what was there
+-- it was appended to what was there
 abbrev pub PutsStart : ℕ → List ℕ → List ℕ → Type 0
 PutsStart seconds before behind = (text : List ℕ) × IsStart seconds text × (behind ≡ before ++ text)

@@ -1,11 +1,11 @@
-//! Texts of others, written so that they end nothing and begin nothing where they stand.
+//! Texts from outside, escaped so that they neither end nor begin anything where they are placed.
 
 ghost use Rattle.std.specs.Prelude.{◌≡◌, ◌<◌, ◌++◌, OnOk};
 ghost use Rattle.pages.specs.Escape.{escaped, escaped_byte, hex_digit, html_byte, is_printable, plain_byte, quoted_byte, unprinted};
 
 use std::alloc::AllocError;
 
-/// Where a text stands.
+/// Where a text is placed.
 #[derive(Clone, Copy, Debug)]
 pub(crate) enum Place {
     /// In the text or in an attribute of an HTML element.
@@ -16,7 +16,7 @@ pub(crate) enum Place {
     Label,
 }
 
-/// A printable sign of ASCII, or the space.
+/// A printable character of ASCII, or the space.
 fn is_printable(byte: u8) -> bool
     ensures { result ≡ is_printable byte }
 {
@@ -35,7 +35,7 @@ fn hex_digit(digit: u8) -> u8
     }
 }
 
-/// What stands before the two digits of a byte that is not printed.
+/// What comes before the two digits of a byte that is not printed.
 fn unprinted(place: Place) -> &'static [u8]
     ensures { result.now ≡ unprinted place }
 {
@@ -91,7 +91,7 @@ fn put_byte(out: &mut Vec<u8>, place: Place, byte: u8) -> Result<(), AllocError>
     }
 }
 
-/// Writes a text of others behind what is there. Where memory runs out, a part may be written there.
+/// Appends a text from outside, escaped. If memory runs out, a part may be written.
 pub(crate) fn put_escaped(out: &mut Vec<u8>, place: Place, text: &[u8]) -> Result<(), AllocError>
     ensures { OnOk result (out.new.items ≡ out.old.items ++ escaped place text.now) }
 {

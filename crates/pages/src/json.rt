@@ -13,7 +13,7 @@ use status::{DatagramCounts, EventCount, Overview, Status};
 use std::alloc::AllocError;
 use text::Text;
 
-/// What stands between the users and the calls.
+/// What comes between the users and the calls.
 const CALLS: &[u8] = b"],\"calls\":[";
 
 #[tactic(auto, unfolding(crate::specs::Json::event_member))]
@@ -169,8 +169,7 @@ fn put_log(out: &mut Vec<u8>, log: &[Text<'static>]) -> Result<(), AllocError>
     out.extend_from_slice(b"]}\n")
 }
 
-/// Writes the overview as an object of JSON (RFC 8259) behind what is there, in ASCII. Where memory runs out, a part of
-/// it may be written there.
+/// Appends the overview as an object of JSON (RFC 8259), in ASCII. If memory runs out, a part may be written.
 #[tactic(auto, unfolding(crate::specs::Json::json_text))]
 pub fn put_json(out: &mut Vec<u8>, overview: Overview<'_>) -> Result<(), AllocError>
     ensures { OnOk result (out.new.items ≡ out.old.items ++ json_text overview.entry) }

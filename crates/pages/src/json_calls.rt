@@ -145,7 +145,7 @@ fn put_next_call(out: &mut Vec<u8>, call: &CallStatus) -> Result<(), AllocError>
     put_call(out, call)
 }
 
-/// Writes the calls with a comma between them. Where memory runs out, a part may be written there.
+/// Writes the calls with a comma between them. If memory runs out, a part may be written.
 pub(crate) fn put_calls(out: &mut Vec<u8>, calls: &[CallStatus]) -> Result<(), AllocError>
     ensures { OnOk result (out.new.items ≡ out.old.items ++ listed call_object calls.now) }
 {

@@ -70,7 +70,7 @@ fn put_next_user(out: &mut Vec<u8>, user: &UserStatus) -> Result<(), AllocError>
     put_user(out, user)
 }
 
-/// Writes the users with a comma between them. Where memory runs out, a part may be written there.
+/// Writes the users with a comma between them. If memory runs out, a part may be written.
 pub(crate) fn put_users(out: &mut Vec<u8>, users: &[UserStatus]) -> Result<(), AllocError>
     ensures { OnOk result (out.new.items ≡ out.old.items ++ listed user_object users.now) }
 {

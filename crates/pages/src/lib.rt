@@ -1,5 +1,6 @@
-//! What the status page's paths answer: the page for a browser, and the same as JSON and in Prometheus' text form. Each
-//! is written from the values of `status`; nothing here opens a socket. A text of others stands in them only escaped.
+//! What the status page's paths answer: the page for a browser, and the same as JSON and in Prometheus' text form.
+//! Each is written from the values of `status`; nothing here opens a socket. A text from outside appears in them only
+//! escaped.
 #![tactic(auto)]
 
 mod escape;

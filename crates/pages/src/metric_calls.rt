@@ -30,7 +30,7 @@ fn put_user(out: &mut Vec<u8>, user: &UserStatus) -> Result<(), AllocError>
     put_bound(out, user.name.as_bytes(), user.bindings.as_slice().len())
 }
 
-/// Writes how many bindings each user has. Where memory runs out, a part may be written there.
+/// Writes how many bindings each user has. If memory runs out, a part may be written.
 pub(crate) fn put_users(out: &mut Vec<u8>, users: &[UserStatus]) -> Result<(), AllocError>
     ensures { OnOk result (out.new.items ≡ out.old.items ++ flat_map user_sample users.now) }
 {
@@ -74,7 +74,7 @@ fn put_call(out: &mut Vec<u8>, call: &CallStatus) -> Result<(), AllocError>
     put_phase(out, call.phase)
 }
 
-/// Writes who talks to whom. Where memory runs out, a part may be written there.
+/// Writes who talks to whom. If memory runs out, a part may be written.
 pub(crate) fn put_calls(out: &mut Vec<u8>, calls: &[CallStatus]) -> Result<(), AllocError>
     ensures { OnOk result (out.new.items ≡ out.old.items ++ flat_map call_sample calls.now) }
 {
@@ -110,7 +110,7 @@ fn put_datagrams_of(out: &mut Vec<u8>, call: &CallStatus) -> Result<(), AllocErr
     }
 }
 
-/// Writes how many datagrams came from each end. Where memory runs out, a part may be written there.
+/// Writes how many datagrams came from each end. If memory runs out, a part may be written.
 pub(crate) fn put_datagrams(out: &mut Vec<u8>, calls: &[CallStatus]) -> Result<(), AllocError>
     ensures { OnOk result (out.new.items ≡ out.old.items ++ flat_map datagram_samples calls.now) }
 {

@@ -190,7 +190,7 @@ fn put_numbers(out: &mut Vec<u8>, status: &Status) -> Result<(), AllocError>
     put_all_events(out, status.events.as_slice())
 }
 
-/// Writes the metrics behind what is there, in ASCII. Where memory runs out, a part of them may be written there.
+/// Appends the metrics, in ASCII. If memory runs out, a part may be written.
 #[tactic(auto, unfolding(crate::specs::Metrics::metrics_text))]
 pub fn put_metrics(out: &mut Vec<u8>, overview: Overview<'_>) -> Result<(), AllocError>
     ensures { OnOk result (out.new.items ≡ out.old.items ++ metrics_text overview.entry) }

@@ -14,7 +14,7 @@ use status::{Overview, Status};
 use std::alloc::AllocError;
 use text::Text;
 
-/// What stands before the version: the page asks for itself again each two seconds, and needs no script.
+/// What comes before the version: the page reloads itself every two seconds, and needs no script.
 const HEAD: &[u8] = b"<!DOCTYPE html>
 <html lang=\"en\">
 <head>
@@ -113,7 +113,7 @@ fn put_body(out: &mut Vec<u8>, overview: Overview<'_>) -> Result<(), AllocError>
     Ok(())
 }
 
-/// Writes the page behind what is there: HTML in ASCII. Where memory runs out, a part of it may be written there.
+/// Appends the page: HTML in ASCII. If memory runs out, a part may be written.
 pub fn put_page(out: &mut Vec<u8>, overview: Overview<'_>) -> Result<(), AllocError>
     ensures { OnOk result (IsPage overview.entry out.old.items out.new.items) }
 {

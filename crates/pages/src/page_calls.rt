@@ -1,4 +1,4 @@
-//! The calls on the page, with what their media say.
+//! The calls on the page, with the state of their media.
 
 ghost use Rattle.std.specs.Prelude.{◌≡◌, ◌++◌, OnOk};
 ghost use Rattle.std.specs.List.{flat_map, list_any};
@@ -91,7 +91,7 @@ fn any_from_callee(media: &[MediumStatus]) -> bool
         .any(|medium| comes_from_callee(medium.direction))
 }
 
-/// From which ends media should come: both talk, and a medium goes that way.
+/// From which ends media should come: both ends talk, and a medium goes that way.
 fn expected_ends(call: &CallStatus) -> Expected
     ensures { result ≡ expected_ends call.now }
 {
@@ -101,7 +101,7 @@ fn expected_ends(call: &CallStatus) -> Expected
     }
 }
 
-/// Where an end from which media should come sent nothing lately, the cell says so.
+/// The cell marks an end from which media should come but that sent nothing recently.
 fn recent_cell(is_expected: bool, recent: u64) -> &'static [u8]
     ensures { result.now ≡ recent_cell is_expected recent }
 {
@@ -195,8 +195,8 @@ fn put_heading(out: &mut Vec<u8>, count: usize) -> Result<(), AllocError>
     put_pieces(out, Place::Html, &pieces)
 }
 
-/// Writes the table of calls behind what is there, as they stand at a moment in milliseconds since the start. Where
-/// memory runs out, a part may be written there.
+/// Appends the table of calls as they are at a moment in milliseconds since the start. If memory runs out, a part may
+/// be written.
 #[tactic(auto, unfolding(crate::specs::Calls::calls_table))]
 pub(crate) fn put_calls(
     out: &mut Vec<u8>,

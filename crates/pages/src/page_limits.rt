@@ -41,7 +41,7 @@ fn put_datagrams(out: &mut Vec<u8>, datagrams: DatagramCounts) -> Result<(), All
     put_pieces(out, Place::Html, &pieces)
 }
 
-/// Writes how near the limits are. Where memory runs out, a part may be written there.
+/// Writes how close the limits are. If memory runs out, a part may be written.
 #[tactic(auto, unfolding(crate::specs::Limits::limits_table))]
 pub(crate) fn put_limits(out: &mut Vec<u8>, status: &Status) -> Result<(), AllocError>
     ensures { OnOk result (out.new.items ≡ out.old.items ++ limits_table status.now) }
@@ -72,7 +72,7 @@ fn put_rows(out: &mut Vec<u8>, events: &[EventCount]) -> Result<(), AllocError>
     Ok(())
 }
 
-/// Writes the table of events. Where memory runs out, a part may be written there.
+/// Writes the table of events. If memory runs out, a part may be written.
 #[tactic(auto, unfolding(crate::specs::Limits::events_table))]
 pub(crate) fn put_events(out: &mut Vec<u8>, events: &[EventCount]) -> Result<(), AllocError>
     ensures { OnOk result (out.new.items ≡ out.old.items ++ events_table events.now) }
@@ -99,7 +99,7 @@ fn put_lines(out: &mut Vec<u8>, log: &[Text<'static>]) -> Result<(), AllocError>
     Ok(())
 }
 
-/// Writes the last lines of the log. Where memory runs out, a part may be written there.
+/// Writes the last lines of the log. If memory runs out, a part may be written.
 #[tactic(auto, unfolding(crate::specs::Limits::log_text))]
 pub(crate) fn put_log(out: &mut Vec<u8>, log: &[Text<'static>]) -> Result<(), AllocError>
     ensures { OnOk result (out.new.items ≡ out.old.items ++ log_text log.now) }

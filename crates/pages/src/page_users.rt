@@ -84,7 +84,7 @@ fn put_heading(out: &mut Vec<u8>, count: usize) -> Result<(), AllocError>
     put_pieces(out, Place::Html, &pieces)
 }
 
-/// Writes the table of users behind what is there. Where memory runs out, a part may be written there.
+/// Appends the table of users. If memory runs out, a part may be written.
 #[tactic(auto, unfolding(crate::specs::Users::users_table))]
 pub(crate) fn put_users(out: &mut Vec<u8>, users: &[UserStatus]) -> Result<(), AllocError>
     ensures { OnOk result (out.new.items ≡ out.old.items ++ users_table users.now) }

@@ -11,16 +11,16 @@ use std::alloc::AllocError;
 /// A piece of a page.
 #[derive(Clone, Copy)]
 pub(crate) enum Piece<'a> {
-    /// What the server itself says, as it is.
+    /// The server's own text, as it is.
     Markup(&'static [u8]),
-    /// What others say, escaped.
+    /// Text from outside, escaped.
     Text(&'a [u8]),
     Number(u64),
     /// Milliseconds, as days, hours, minutes and seconds.
     Duration(u64),
 }
 
-/// Writes a number in decimal. Where memory runs out, a part may be written.
+/// Writes a number in decimal. If memory runs out, a part may be written.
 pub(crate) fn put_number(out: &mut Vec<u8>, number: u64) -> Result<(), AllocError>
     ensures { OnOk result (out.new.items ≡ out.old.items ++ decimal number) }
 {
@@ -28,7 +28,7 @@ pub(crate) fn put_number(out: &mut Vec<u8>, number: u64) -> Result<(), AllocErro
     out.extend_from_slice(buffer.format(number).as_bytes())
 }
 
-/// A part of a duration, where the whole has so many seconds at least.
+/// A part of a duration, if the whole has at least `least` seconds.
 fn put_part(
     out: &mut Vec<u8>,
     seconds: u64,
@@ -66,7 +66,7 @@ fn put_piece(out: &mut Vec<u8>, place: Place, piece: Piece<'_>) -> Result<(), Al
     }
 }
 
-/// Writes pieces behind what is there. Where memory runs out, a part may be written there.
+/// Appends pieces. If memory runs out, a part may be written.
 pub(crate) fn put_pieces(
     out: &mut Vec<u8>,
     place: Place,

@@ -14,8 +14,8 @@ fn put_date(out: &mut Vec<u8>, date: HttpDate) -> Result<(), AllocError>
     out.extend_from_slice(&date.to_bytes())
 }
 
-/// Writes the moment that lies so many seconds behind the beginning of 1970, as `Sun, 06 Nov 1994 08:49:37 GMT`; from
-/// the year 10000 on the seconds themselves. Where memory runs out, a part may be written.
+/// Writes the moment this many seconds after the beginning of 1970, as `Sun, 06 Nov 1994 08:49:37 GMT`; from the year
+/// 10000 on, the seconds themselves. If memory runs out, a part may be written.
 pub(crate) fn put_start(out: &mut Vec<u8>, seconds: u64) -> Result<(), AllocError>
     ensures { OnOk result (PutsStart seconds out.old.items out.new.items) }
 {

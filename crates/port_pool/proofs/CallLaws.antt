@@ -21,7 +21,7 @@ use Rattle.port_pool.proofs.PlaceLaws.{set_at, PairsFrom-at, ports_of_place, por
 
 -- ---- a change of one holding
 
--- the places of a call, before and behind it
+-- the places of a call, before and after the change
 module _ (call : ℕ) (f : Holding → Holding) (d : Holding) (holdings : List Holding) (i : ℕ) where
   places_at : places_of call 0 (at_place i f holdings) ≡ places_of call 0 (set holdings i (f (get_or holdings i d)))
   places_at = ap (places_of call 0) (sym (set_at f holdings i d))
@@ -54,7 +54,7 @@ unheld_at f holdings i d less =
     let before = length-filter is_unheld holdings in
     omega (arith, after, before, count)
 
--- ---- the index behind a change
+-- ---- the index after a change
 
 own_call : (call : ℕ) (o : Option ℕ) → o ≡ Some call → is_call call o ≡ true
 own_call call o is = rw is (eq-eqb call call refl)
@@ -142,7 +142,7 @@ place_from call (s ∷ ss) n k =
 abbrev pub IsKth : ℕ → List Holding → ℕ → ℕ → ℕ → Type 0
 IsKth call holdings n k i = (k < length (places_of call n holdings)) × (get_or (places_of call n holdings) k 0 ≡ n + i)
 
--- it is the kth of those behind the first holding, too
+-- it is the kth of those after the first holding, too
 behind_held : (call : ℕ) (s : Holding) (ss : List Holding) (n k i : ℕ) → holds call s ≡ true → IsKth call (s ∷ ss) n (suc k) (suc i) → IsKth call ss (1 + n) k i
 behind_held call s ss n k i is (less, at) =
     let all : places_of call n (s ∷ ss) ≡ n ∷ places_of call (1 + n) ss = rw is refl in
@@ -157,7 +157,7 @@ behind_other call s ss n k i is (less, at) =
     let same = ap (λ ns. get_or ns k 0) all in
     (omega (arith, fewer, less), sym same ∙ at ∙ omega arith)
 
--- the first holding is none but the first of a call's
+-- the first holding is only the first of a call's
 first_held : (call : ℕ) (s : Holding) (ss : List Holding) (n k : ℕ) → IsKth call (s ∷ ss) n k 0 → (holds call s ≡ true) × (k ≡ 0)
 first_held call s ss n k kth =
     elim (holds call s) as (λ b. holds call s ≡ b → (b ≡ true) × (k ≡ 0)) [
@@ -182,7 +182,7 @@ first_held call s ss n k kth =
         let from = place_from call ss (1 + n) k (omega (arith, fewer, less)) in
         omega (arith, from, same, at)
 
--- the call holds the first holding, or it does not, and the place is one behind it
+-- the call holds the first holding, or it does not, and the place is one after it
 not_first : (call : ℕ) (s : Holding) (ss : List Holding) (n i : ℕ) → holds call s ≡ true → IsKth call (s ∷ ss) n 0 (suc i) → ⊥
 not_first call s ss n i is (less, at) =
     let all : places_of call n (s ∷ ss) ≡ n ∷ places_of call (1 + n) ss = rw is refl in
@@ -204,7 +204,7 @@ kth_held call (s ∷ ss) n (suc k) (suc i) d kth =
       | false ↦ λ is. (let rest = kth_held call ss (1 + n) (suc k) i d (behind_other call s ss n (suc k) i is kth) in (omega (arith, rest.0), rest.1))
     ] refl
 
--- ---- pairs that are freed but for some
+-- ---- pairs that are freed except for some
 
 module _ (call : ℕ) (kept : List Pair) where
   -- a pair that the call does not hold is passed
@@ -224,7 +224,7 @@ module _ (call : ℕ) (kept : List Pair) where
         | false ↦ λ is. kept_other (length (places_of call (1 + n) ss)) s ss is ∙ kept_past ss (1 + n)
       ] refl
 
-  -- where all are kept, none is freed
+  -- if all are kept, none is freed
   pub none_freed : (now : ℕ) (holdings : List Holding) → kept_from call kept 0 holdings ≡ true → others_freed call kept now holdings ≡ holdings
   none_freed now [] h = refl
   none_freed now (s ∷ ss) h =
@@ -233,7 +233,7 @@ module _ (call : ℕ) (kept : List Pair) where
         | false ↦ λ h. ap (λ rest. s ∷ rest) (none_freed now ss h)
       ] h
 
-  -- the kth is kept, and so are those behind it
+  -- the kth is kept, and so are those after it
   pub kept_here : (holdings : List Holding) (n k i : ℕ) (d : Holding) → IsKth call holdings n k i → is_among kept (get_or holdings i d).even ≡ true → kept_from call kept (suc k) holdings ≡ true
       → kept_from call kept k holdings ≡ true
   kept_here [] n k i d kth here h = refl
@@ -252,7 +252,7 @@ module _ (call : ℕ) (kept : List Pair) where
         | false ↦ λ is. kept_other (suc k) s ss is ∙ kept_here ss (1 + n) (suc k) i d (behind_other call s ss n (suc k) i is kth) here (sym (kept_other (suc (suc k)) s ss is) ∙ h)
       ] refl
 
-  -- the kth is freed, and those behind it are kept
+  -- the kth is freed, and those after it are kept
   pub kept_behind : (now : ℕ) (holdings : List Holding) (n k i : ℕ) → IsKth call holdings n k i → kept_from call kept (suc k) holdings ≡ true → kept_from call kept k (at_place i (freed_at now) holdings) ≡ true
   kept_behind now [] n k i kth h = refl
   kept_behind now (s ∷ ss) n k zero kth h =
@@ -275,7 +275,7 @@ module _ (call : ℕ) (kept : List Pair) where
   pub other_is : (s : Holding) → holds call s ≡ true → is_among kept s.even ≡ false → is_other call kept s ≡ true
   other_is s mine out = rw (mine, out) refl
 
-  -- who frees one of the others first frees the same
+  -- freeing one of the others first frees the same
   pub freed_same : (now : ℕ) (holdings : List Holding) (i : ℕ) (d : Holding) → i < length holdings → is_other call kept (get_or holdings i d) ≡ true
       → others_freed call kept now (at_place i (freed_at now) holdings) ≡ others_freed call kept now holdings
   freed_same now [] i d less is = refl
@@ -302,7 +302,7 @@ IsIndexed-new first pairs calls even from upto none room = record {
 
 -- ---- the ports of a call's pairs
 
--- those at the places from n on, where the first of these holdings has the place n
+-- those at the places from n on, if the first of these holdings has the place n
 ports_behind : (all : List Holding) (call : ℕ) (holdings : List Holding) (n : ℕ) → ((i : ℕ) → i < length holdings → get_or all (n + i) no_holding ≡ get_or holdings i no_holding)
     → flat_map (λ m. ports_of_place all m) (places_of call n holdings) ≡ ports_of call holdings
 ports_behind all call [] n same = refl

@@ -32,7 +32,7 @@ PairsRise-pairs n [] h = λ i j d below within. absurd (omega arith)
 PairsRise-pairs n (s ∷ ss) h =
     AllPairs-cons (λ s t. s.even + 1 < t.even) s ss (all_above (s.even + 1) (s.even + 2) ss (omega arith) h.3) (PairsRise-pairs (s.even + 2) ss h.3)
 
--- ports stay, whoever holds them
+-- ports stay the same, no matter who holds them
 pub PairsFrom-map : (f : Holding → Holding) → ((s : Holding) → (f s).even ≡ s.even) → (n : ℕ) (holdings : List Holding) → PairsFrom n holdings → PairsFrom n (map f holdings)
 PairsFrom-map f same n [] h = tt
 PairsFrom-map f same n (s ∷ ss) h = rw (same s) (h.0, h.1, h.2, PairsFrom-map f same (s.even + 2) ss h.3)
@@ -206,7 +206,7 @@ among_free now holdings (p ∷ ps) e all =
       | false ↦ λ is h. among_free now holdings ps e (λ k d within. all (suc k) d (omega arith)) h
     ]) refl
 
--- pairs that were free are the call's, the others whose they were
+-- pairs that were free are the call's, the others keep their holders
 pub holder_of-held : (now call : ℕ) (pairs : List Pair) (holdings : List Holding) (e : ℕ) → All (λ p. is_among (free_pairs now holdings) p.even ≡ true) pairs
     → holder_of (taken call pairs holdings) e ≡ cond (is_among pairs e) (Some call) (holder_of holdings e)
 holder_of-held now call pairs holdings e free = holder_of-taken call pairs holdings e (λ h. free_stands now holdings e (among_free now holdings pairs e free h))
@@ -228,7 +228,7 @@ no_pairs : (n e : ℕ) → All (λ p. p.even < e) (take {A = Pair} n [])
 no_pairs zero e = All-nil (λ p. p.even < e)
 no_pairs (suc n) e = All-nil (λ p. p.even < e)
 
--- any other free pair stands above the n lowest
+-- any other free pair is above the n lowest
 pub lowest_below : (now n least : ℕ) (holdings : List Holding) (e : ℕ) → PairsFrom least holdings → is_among (free_pairs now holdings) e ≡ true
     → is_among (take n (free_pairs now holdings)) e ≡ false → All (λ p. p.even < e) (take n (free_pairs now holdings))
 lowest_below now n least [] e h = λ among others. no_pairs n e

@@ -1,4 +1,4 @@
--- Lemmas on where a port stands among pairs that rise.
+-- Lemmas on the place of a port among pairs that rise.
 use Rattle.std.proofs.Common.{◌≡◌, ◌<◌, ◌≤◌, ◌∙◌, ℕ, true, false, ltb, List, length, get_or, Some, None, inl, inr, refl, ap, arith}
 use Rattle.std.specs.List.{position, position_or_len}
 use Rattle.std.specs.List.Sorted.{IsPartitionedBy, IsPartitionPoint}
@@ -15,7 +15,7 @@ evens_rise holdings i j d rise le less =
       | inr same ↦ (let at : i ≡ j = omega (arith, le, same) in let e = ap (λ k. (get_or holdings k d).even) at in omega (arith, e))
     ]
 
--- a pair below the port stands in front of all that are not
+-- a pair below the port comes before all that are not
 pub parted_below : (port : ℕ) (holdings : List Holding) → PairsRise holdings → IsPartitionedBy (λ s. ltb s.even port) holdings
 parted_below port holdings rise i j d le less below =
     let lower = evens_rise holdings i j d rise le less in

@@ -19,11 +19,11 @@ set_at f [] i d = refl
 set_at f (s ∷ ss) zero d = refl
 set_at f (s ∷ ss) (suc i) d = ap (λ rest. s ∷ rest) (set_at f ss i d)
 
--- so it is for an element that was read there
+-- the same holds for an element that was read there
 pub written_at : (f : Holding → Holding) (holdings : List Holding) (i : ℕ) (s d : Holding) → i < length holdings → s ≡ get_or holdings i d → set holdings i (f s) ≡ at_place i f holdings
 written_at f holdings i s d less is = ap (λ t. set holdings i (f t)) is ∙ set_at f holdings i d
 
--- who is nobody's already
+-- a pair that is nobody's already
 pub vacated_same : (s : Holding) → s.holder ≡ None → vacated s ≡ s
 vacated_same s none = λ i. record { even = s.even; holder = sym none i; freed = s.freed }
 
@@ -42,7 +42,7 @@ same_at f [] i d same = refl
 same_at f (s ∷ ss) zero d same = ap (λ t. t ∷ ss) same
 same_at f (s ∷ ss) (suc i) d same = ap (λ rest. s ∷ rest) (same_at f ss i d same)
 
--- two changes at a place, one behind the other
+-- two changes at a place, one after the other
 pub twice_at : (f g h : Holding → Holding) → ((s : Holding) → f (g s) ≡ h s) → (holdings : List Holding) (i : ℕ) → at_place i f (at_place i g holdings) ≡ at_place i h holdings
 twice_at f g h both [] i = refl
 twice_at f g h both (s ∷ ss) zero = ap (λ t. t ∷ ss) (both s)

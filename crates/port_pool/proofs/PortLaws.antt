@@ -50,7 +50,7 @@ keeps : (b : Bool) → ((b && true) || false) ≡ b
 keeps true = refl
 keeps false = refl
 
--- a port is among those of a call exactly where the call holds its pair
+-- a port is among those of a call exactly if the call holds its pair
 pub port_in : (call n : ℕ) (holdings : List Holding) (q : ℕ) → PairsFrom n holdings → list_any (λ p. p == q) (ports_of call holdings) ≡ is_call call (holder_at holdings q)
 port_in call n [] q h = refl
 port_in call n (s ∷ ss) q h =

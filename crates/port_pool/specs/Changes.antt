@@ -20,13 +20,13 @@ abbrev pub port_of : Change → ℕ
 port_of (Put port hop) = port
 port_of (Remove port) = port
 
--- what gives a port this row
+-- the change that gives a port this row
 abbrev pub change_to : ℕ → Option Hop → Change
 change_to port None = Remove port
 change_to port (Some hop) = Put port hop
 
--- What leads from the old row of a port to its new one: Put where the row is new or other, Remove where it went, and
--- nothing where it is the same.
+-- What leads from the old row of a port to its new one: Put if the row is new or different, Remove if it is gone, and
+-- nothing if it is the same.
 abbrev pub changes_between : ℕ → Option Hop → Option Hop → List Change
 changes_between port old new = if same_row old new then [] else change_to port new ∷ []
 

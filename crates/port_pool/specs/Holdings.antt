@@ -25,7 +25,7 @@ is_call call (Some other) = other == call
 abbrev pub holds : ℕ → Holding → Bool
 holds call holding = is_call call holding.holder
 
--- the pair was freed at a moment from which less than the time of rest has gone by
+-- the pair was freed, and less than the time of rest has passed since
 abbrev pub rests_since : ℕ → Option ℕ → Bool
 rests_since now None = false
 rests_since now (Some freed) = nat_lt now (freed + rest_time)
@@ -51,7 +51,7 @@ has_even even holding = holding.even == even
 abbrev pub holder_of : List Holding → ℕ → Option ℕ
 holder_of holdings even = option_and_then (λ s. s.holder) (find (has_even even) holdings)
 
--- the call that holds the pair of this port, be it the even or the odd one
+-- the call that holds the pair of this port, whether even or odd
 abbrev pub holder_at : List Holding → ℕ → Option ℕ
 holder_at holdings port = holder_of holdings (even_of port)
 
@@ -94,7 +94,7 @@ is_other call kept holding = holds call holding && not (is_among kept holding.ev
 abbrev pub holding_after_freeing_others : ℕ → List Pair → ℕ → Holding → Holding
 holding_after_freeing_others call kept now holding = if is_other call kept holding then freed_at now holding else holding
 
--- each pair of the call but for these is nobody's, and rests from now on
+-- each pair of the call except these is nobody's, and rests from now on
 abbrev pub others_freed : ℕ → List Pair → ℕ → List Holding → List Holding
 others_freed call kept now holdings = map (holding_after_freeing_others call kept now) holdings
 
@@ -104,12 +104,12 @@ others_freed call kept now holdings = map (holding_after_freeing_others call kep
 abbrev pub LeadsPair : ℕ → Type 0
 LeadsPair even = (min_port ≤ even) × (even % 2 ≡ 0) × (even + 1 ≤ last_port)
 
--- each of these pairs stands above all ports of those before it
+-- each of these pairs is above all ports of those before it
 abbrev pub AreRising : List Pair → Type 0
 AreRising pairs = AllPairs (λ p q. p.even + 1 < q.even) pairs
 
--- Each pair begins at an even port, not below this one and above all ports of the pairs before it, and its odd port is
--- one that there is.
+-- Each pair begins at an even port, not below this one and above all ports of the pairs before it, and its odd port
+-- exists.
 abbrev pub PairsFrom : ℕ → List Holding → Type 0
 PairsFrom least [] = Unit {0}
 PairsFrom least (s ∷ ss) = (least ≤ s.even) × (s.even % 2 ≡ 0) × (s.even + 1 ≤ last_port) × PairsFrom (s.even + 2) ss
@@ -118,6 +118,6 @@ PairsFrom least (s ∷ ss) = (least ≤ s.even) × (s.even % 2 ≡ 0) × (s.even
 abbrev pub HasOdd : Holding → Type 0
 HasOdd holding = holding.even + 1 ≤ last_port
 
--- a pair stands above all ports of each pair before it
+-- a pair is above all ports of each pair before it
 abbrev pub PairsRise : List Holding → Type 0
 PairsRise holdings = AllPairs (λ s t. s.even + 1 < t.even) holdings

@@ -14,7 +14,7 @@ use Rattle.port_pool.specs.Pool.{coded_holding}
 abbrev pub coded_holdings : Coded (List Holding)
 coded_holdings = coded_list coded_holding
 
--- a holding, where a list has none
+-- the holding given if a list has none
 abbrev pub no_holding : Holding
 no_holding = record { even = 0; holder = None; freed = None }
 

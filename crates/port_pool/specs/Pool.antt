@@ -37,7 +37,7 @@ new_pool first pairs = record { holdings = unheld_pairs first pairs; rows = empt
 abbrev pub lowest_free : Contents → ℕ → ℕ → List Pair
 lowest_free pool now n = take n (free_pairs now pool.holdings)
 
--- any other pair that is free stands above each of these
+-- any other pair that is free is above each of these
 abbrev pub AreLowestFree : Contents → ℕ → List Pair → Type 0
 AreLowestFree pool now pairs = (even : ℕ) → is_among (free_pairs now pool.holdings) even ≡ true → is_among pairs even ≡ false
     → All (λ p. p.even < even) pairs
@@ -58,11 +58,11 @@ reserved pool call n now = with_pairs pool call (lowest_free pool now n)
 abbrev pub freed : Contents → Pair → ℕ → Contents
 freed pool pair now = record { holdings = released pair now pool.holdings; rows = pool.rows }
 
--- the pair serves nobody until the time of rest has gone by since this moment
+-- the pair serves nobody until the time of rest has passed since this moment
 abbrev pub RestsFrom : Contents → ℕ → ℕ → Type 0
 RestsFrom pool even now = (moment : ℕ) → moment < now + rest_time → is_among (free_pairs moment pool.holdings) even ≡ false
 
--- the call holds these pairs alone, if it held them
+-- the call holds only these pairs, if it held them
 abbrev pub without_others : Contents → ℕ → List Pair → ℕ → Contents
 without_others pool call kept now = record { holdings = others_freed call kept now pool.holdings; rows = pool.rows }
 
@@ -92,7 +92,7 @@ HasNoRow pool pair = (get pool.rows pair.even ≡ None) × (get pool.rows (pair.
 abbrev pub AreOwn : Contents → ℕ → List RelayLine → Type 0
 AreOwn pool call lines = All (λ l. holder_at pool.holdings l.port ≡ Some call) lines
 
--- no port stands in two lines
+-- no port occurs in two lines
 abbrev pub StandOnce : List RelayLine → Type 0
 StandOnce lines = AllPairs (λ a b. a.port ≢ b.port) lines
 
@@ -126,7 +126,7 @@ AreHeld pool changes = All (λ c. is_some (holder_at pool.holdings (port_of c)) 
 abbrev pub with_changes : Contents → List Change → Contents
 with_changes pool changes = record { holdings = pool.holdings; rows = changed_by pool.rows changes }
 
--- the rows of these lines stand in place of the call's former ones
+-- the rows of these lines replace the call's former ones
 abbrev pub committed : Contents → ℕ → List RelayLine → Contents
 committed pool call lines = with_changes pool (changes_of pool call lines)
 
@@ -134,7 +134,7 @@ committed pool call lines = with_changes pool (changes_of pool call lines)
 abbrev pub without_call : Contents → ℕ → ℕ → Contents
 without_call pool call now = record { holdings = dropped call now pool.holdings; rows = (committed pool call []).rows }
 
--- no port of the call has a row but those of these pairs
+-- no port of the call has a row except those of these pairs
 abbrev pub AreBareBut : Contents → ℕ → List Pair → Type 0
 AreBareBut pool call kept = (port : ℕ) → is_port_of pool call port ≡ true → is_among kept (even_of port) ≡ false → get pool.rows port ≡ None
 

@@ -7,7 +7,7 @@ use Rattle.port_pool.specs.declared.hop.Hop.{Hop}
 use Rattle.port_pool.specs.declared.changes.Change.{Change}
 use Rattle.port_pool.specs.declared.changes.Change.TheVariants.{Put, Remove}
 
--- where a datagram that comes in at a port goes on
+-- where a datagram that comes in at a port goes next
 abbrev pub Rows : Type 0
 Rows = FinMap nat_cmp Hop
 

@@ -1,4 +1,4 @@
-//! Changes of the relay table, and those that lead from a call's rows to other ones.
+//! Changes of the relay table, and those that lead from a call's rows to other rows.
 
 ghost use Rattle.std.specs.Prelude.{◌≡◌, ◌==◌, ◌++◌, IfOk, OnOk, find};
 ghost use Rattle.std.specs.List.{flat_map};
@@ -21,7 +21,7 @@ pub enum Change {
     Remove(u16),
 }
 
-/// What gives a port this row.
+/// The change that gives a port this row.
 fn change_to(port: u16, hop: Option<Hop>) -> Change
     ensures { result ≡ change_to port hop }
 {
@@ -31,7 +31,7 @@ fn change_to(port: u16, hop: Option<Hop>) -> Change
     }
 }
 
-/// What leads to the rows of these lines at each port of a call, by rising port.
+/// The changes that lead to the rows of these lines at each port of a call, by rising port.
 pub(crate) fn changes_of(
     alloc: Global,
     places: &Places,

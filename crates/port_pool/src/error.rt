@@ -1,4 +1,4 @@
-//! Why the pool refuses what a call asks.
+//! Why the pool refuses what a call asks for.
 
 use std::alloc::AllocError;
 use thiserror::Error;

@@ -12,7 +12,7 @@ use crate::pair::Pair;
 use crate::pair_counts::PairCounts;
 use std::alloc::{AllocError, Global};
 
-/// For how long a pair rests after it was freed, in milliseconds.
+/// How long a pair rests after it was freed, in milliseconds.
 const REST: u64 = 32_000;
 
 /// A pair, by its even port, the call that holds it, if any, and the moment at which it was last freed, if it ever was,
@@ -24,7 +24,7 @@ pub(crate) struct Holding {
     pub freed: Option<u64>,
 }
 
-/// Whether the pair was freed so lately that late datagrams may still come to it.
+/// Whether the pair was freed so recently that late datagrams may still come to it.
 fn is_resting(now: u64, holding: &Holding) -> bool
     ensures { result ≡ is_resting now holding.now }
 {
@@ -121,7 +121,7 @@ pub(crate) fn unheld_pairs(
     Ok(holdings)
 }
 
-/// The lowest pairs that may be given to a call: `n`, or all where fewer are free.
+/// The lowest pairs that may be given to a call: `n`, or all if fewer are free.
 pub(crate) fn lowest_free(
     alloc: Global,
     holdings: &[Holding],
@@ -154,7 +154,7 @@ pub(crate) fn is_held_by(holdings: &[Holding], call: u64, even: u16) -> bool
     holder_of(holdings, even) == Some(call)
 }
 
-// How many pairs stand below a port.
+// How many pairs are below a port.
 fn count_below(holdings: &[Holding], port: u16) -> usize
     requires { PairsRise holdings.now }
     ensures bound { result ≤ length holdings.now }

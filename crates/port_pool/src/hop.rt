@@ -1,4 +1,4 @@
-//! Where a datagram goes on.
+//! Where a datagram goes next.
 
 use sip_uri::Addr;
 

@@ -1,7 +1,8 @@
-//! Pairs of ports that relay media, the calls that hold them, and the relay table: where the datagrams of each port go.
+//! Pairs of ports that relay media, the calls that hold them, and the relay table: where the datagrams of each port
+//! go.
 //!
-//! A call is known by its number alone. No port ever serves two calls, no row outlives the call's hold of its port, and
-//! a pair that was freed rests before it serves again.
+//! A call is known only by its number. No port ever serves two calls, no row outlives the call's hold of its port,
+//! and a pair that was freed rests before it serves again.
 #![tactic(auto)]
 
 mod changes;

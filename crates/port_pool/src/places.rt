@@ -147,7 +147,8 @@ impl Places {
     // Frees the kth of the pairs of a call, unless it is one of these.
     fn free_unkept(&mut self, call: u64, k: usize, kept: &[Pair], now: u64)
         requires { k < length (places_of call 0 self.old) }
-        // Who frees the others first or last frees the same; where none behind the kth is left, it is not left either.
+        // Freeing the others first or last gives the same; if all pairs after the kth are kept, all from the kth on
+        // are kept afterwards.
         ensures same { others_freed call kept.now now self.new ≡ others_freed call kept.now now self.old }
         ensures before { k ≤ length (places_of call 0 self.new) }
         ensures behind { kept_from call kept.now (k + 1) self.old ≡ true → kept_from call kept.now k self.new ≡ true }
@@ -159,11 +160,11 @@ impl Places {
         }
     }
 
-    /// Frees the pairs of a call but for these.
+    /// Frees the pairs of a call except these.
     pub(crate) fn free_others(&mut self, call: u64, kept: &[Pair], now: u64)
         ensures { self.new ≡ others_freed call kept.now now self.old }
     {
-        // From the last one on, since what is freed goes out of the list.
+        // From the last one on, since freed pairs leave the list.
         let mut left = self.of_call(call).len();
         while left > 0 {
             left -= 1;

@@ -69,7 +69,7 @@ impl Pool {
     }
 
     /// The `n` lowest pairs that are free at the moment `now`, in milliseconds: nobody holds them, and they do not
-    /// rest. They are what `reserve` gives. P1 comes only where fewer are free.
+    /// rest. They are what `reserve` gives. P1 comes only if fewer are free.
     pub fn plan_reserve(&self, n: usize, now: u64) -> Result<Vec<Pair>, PoolError>
         ensures pairs { IfOk result (λ pairs. pairs.items ≡ lowest_free self.now now n) }
         ensures count { IfOk result (λ pairs. length pairs.items ≡ n) }
@@ -97,13 +97,13 @@ impl Pool {
         ensures holder { (port : ℕ) → holder_at self.new.holdings port
             ≡ (if is_among pairs.now (even_of port) then Some call else holder_at self.old.holdings port) }
     {
-        // The moment is what the condition speaks of, and nothing is written at it.
+        // Only the condition refers to the moment, and nothing is written at it.
         let _ = now;
         self.places.take(call, pairs);
     }
 
     /// Gives a call the `n` lowest pairs that are free at the moment `now`, in milliseconds: nobody holds them, and
-    /// they do not rest. P1 comes only where fewer are free, and every refusal leaves the pool as it was.
+    /// they do not rest. P1 comes only if fewer are free, and every refusal leaves the pool as it was.
     pub fn reserve(&mut self, call: u64, n: usize, now: u64) -> Result<Vec<Pair>, PoolError>
         ensures pairs { IfOk result (λ pairs. pairs.items ≡ lowest_free self.old now n) }
         ensures count { IfOk result (λ pairs. length pairs.items ≡ n) }
@@ -127,7 +127,7 @@ impl Pool {
         Ok(pairs)
     }
 
-    /// Frees a pair that a call holds, at whose ports no row stands; from the moment `now` the pair rests. Takes no
+    /// Frees a pair that a call holds and whose ports have no row; from the moment `now` the pair rests. Takes no
     /// memory.
     pub fn free(&mut self, pair: Pair, now: u64)
         requires held { is_some (holder_of self.old.holdings pair.even) ≡ true }
@@ -140,7 +140,7 @@ impl Pool {
         self.places.release(pair, now);
     }
 
-    /// Frees a pair of a call, at whose ports the call has no row; from the moment `now` the pair rests. P2 comes where
+    /// Frees a pair of a call, at whose ports the call has no row; from the moment `now` the pair rests. P2 comes if
     /// the pair is not the call's, and leaves the pool as it was. Takes no memory.
     pub fn release(&mut self, call: u64, pair: Pair, now: u64) -> Result<(), PoolError>
         requires { holder_of self.old.holdings pair.even ≡ Some call → HasNoRow self.old pair }
@@ -160,8 +160,8 @@ impl Pool {
         Ok(())
     }
 
-    /// Frees the pairs of a call but for these, at whose ports alone the call has rows; from the moment `now` they
-    /// rest. Takes no memory.
+    /// Frees the pairs of a call except these, which are the only ones at whose ports the call has rows. From the
+    /// moment `now` the freed pairs rest. Takes no memory.
     pub fn free_others(&mut self, call: u64, kept: &[Pair], now: u64)
         requires { AreBareBut self.old call kept.now }
         ensures pool { self.new ≡ without_others self.old call kept.now now }
@@ -174,7 +174,7 @@ impl Pool {
         self.places.free_others(call, kept, now);
     }
 
-    /// What leads to these rows of a call in place of its former ones, by rising port: what `commit` answers.
+    /// The changes that replace a call's former rows with these, by rising port: what `commit` returns.
     pub fn plan_commit(&self, call: u64, lines: &[RelayLine]) -> Result<Vec<Change>, AllocError>
         requires own { AreOwn self.now call lines.now }
         requires once { StandOnce lines.now }
@@ -191,7 +191,7 @@ impl Pool {
         Ok(changes)
     }
 
-    /// Makes these changes, all of ports whose pairs calls hold, as those of `plan_commit` are. Takes no memory.
+    /// Makes these changes, all at ports whose pairs calls hold, as those of `plan_commit` are. Takes no memory.
     pub fn put(&mut self, changes: &[Change])
         requires { AreHeld self.old changes.now }
         ensures { self.new ≡ with_changes self.old changes.now }
@@ -199,9 +199,9 @@ impl Pool {
         self.table.change_all(changes);
     }
 
-    /// Puts these rows of a call in place of its former ones, and answers what changed, by rising port: Put for each
-    /// port whose row is new or other, Remove for each whose row went. A line without a hop, or no line, leaves its
-    /// port without a row. No pair is freed, so the moment changes nothing. A refusal (no memory) leaves the pool as it
+    /// Replaces a call's former rows with these, and returns what changed, by rising port: Put for each port whose
+    /// row is new or different, Remove for each whose row is gone. A line without a hop, or no line, leaves its port
+    /// without a row. No pair is freed, so the moment changes nothing. A refusal (no memory) leaves the pool as it
     /// was.
     pub fn commit(
         &mut self,
@@ -214,7 +214,7 @@ impl Pool {
         ensures changes { IfOk result (λ changes. changes.items ≡ changes_of self.old call lines.now) }
         ensures pool { OnOk result (self.new ≡ committed self.old call lines.now) }
 
-        // The changes and no others lead from the table before to the table after.
+        // These changes and no others lead from the table before to the table after.
         ensures leads { IfOk result (λ changes. LeadFrom self.old.rows self.new.rows changes.items) }
         ensures rows { OnOk result ((port : ℕ) →
             map.get self.new.rows port ≡ row_after self.old call lines.now port) }
@@ -228,7 +228,7 @@ impl Pool {
         Ok(changes)
     }
 
-    /// The removals of all rows of a call, by rising port: what `drop_call` answers.
+    /// The removals of all rows of a call, by rising port: what `drop_call` returns.
     pub fn plan_drop(&self, call: u64) -> Result<Vec<Change>, AllocError>
         ensures changes { IfOk result (λ changes. changes.items ≡ changes_of self.now call []) }
         ensures leads { IfOk result (λ changes.
@@ -238,8 +238,8 @@ impl Pool {
         Ok(removals)
     }
 
-    /// Frees all pairs of a call, which rest from the moment `now`, and makes the removals of its rows, which are those
-    /// of `plan_drop`. Takes no memory.
+    /// Frees all pairs of a call, which rest from the moment `now`, and removes its rows with the removals of
+    /// `plan_drop`. Takes no memory.
     pub fn end_call(&mut self, call: u64, removals: &[Change], now: u64)
         requires { removals.now ≡ changes_of self.old call [] }
         ensures pool { self.new ≡ without_call self.old call now }
@@ -254,8 +254,8 @@ impl Pool {
         self.places.drop_all(call, now);
     }
 
-    /// Frees all pairs of a call, which rest from the moment `now`, and removes all its rows, and answers these
-    /// removals, by rising port. A refusal (no memory) leaves the pool as it was.
+    /// Frees all pairs of a call, which rest from the moment `now`, removes all its rows, and returns these removals,
+    /// by rising port. A refusal (no memory) leaves the pool as it was.
     pub fn drop_call(&mut self, call: u64, now: u64) -> Result<Vec<Change>, AllocError>
         ensures changes { IfOk result (λ changes. changes.items ≡ changes_of self.old call []) }
         ensures pool { OnOk result (self.new ≡ without_call self.old call now) }
@@ -285,7 +285,7 @@ impl Pool {
         let _ = &self.places;
     }
 
-    /// The call that holds the pair of a port, be it the even or the odd one. Takes no memory.
+    /// The call that holds the pair of a port, whether even or odd. Takes no memory.
     pub fn holder(&self, port: u16) -> Option<u64>
         ensures { result ≡ holder_at self.now.holdings port }
     {

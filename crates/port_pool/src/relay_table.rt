@@ -58,7 +58,7 @@ impl RelayTable {
         self.slots[usize::from(port)]
     }
 
-    /// Puts a row in place of the one that its port has, if any, or takes it out. Takes no memory.
+    /// Replaces the row of a port, if any, or removes it. Takes no memory.
     #[tactic(auto, using(crate::proofs::SlotLaws::slots_as_rows))]
     pub fn change(&mut self, change: &Change)
         ensures { self.new ≡ changed self.old change.now }

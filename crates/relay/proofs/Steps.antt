@@ -82,7 +82,7 @@ last_of_one x y [] one e = absurd (omega arith)
 last_of_one x y (changes ∷ []) one e = ap (λ c. c.2 ∷ []) e
 last_of_one x y (changes ∷ (more ∷ rest)) one e = absurd (omega arith)
 
--- what is published is what was pending, where the call succeeds
+-- what is published is what was pending, if the call succeeds
 pub lists_shown : (r : Result (Unit {0}) AllocError) (x y : Published) (v w pending : Lists) (Q Q' : Type 0) → length pending ≡ 1 → IsOk r
     → MatchResult r (λ _. (contents y ≡ fold after_list (contents x) pending) × Q') (λ _. Q) → MatchResult r (λ _. Adds v x y w) (λ _. w ≡ v) → w ≡ v ++ pending
 lists_shown (Ok u) x y v w pending Q Q' one ok values rule = rule.0 ∙ ap (λ (l : Lists). v ++ l) (last_of_one x y pending one values.0)

@@ -9,12 +9,12 @@ use Rattle.atomic_table.specs.Table.{Me, State, Step}
 abbrev pub port_count : ℕ
 port_count = 65536
 
--- how often a port stands among these
+-- how often a port is among these
 abbrev pub times : ℕ → List ℕ → ℕ
 times port [] = 0
 times port (p ∷ ports) = (if p == port then 1 else 0) + times port ports
 
--- the number that is read for a port: it begins anew behind 2^64 datagrams
+-- the number that is read for a port: it wraps around after 2^64 datagrams
 abbrev pub number_of : ℕ → List ℕ → ℕ
 number_of port ports = times port ports % 2 ^ 64
 
@@ -43,7 +43,7 @@ Begin views ports = (seat : ℕ) (known : List ℕ) → get_elem? views seat ≡
 abbrev pub Keeps : State (Unit {0}) (List ℕ) → Type 0
 Keeps s = (ports : List ℕ) × (length s.words ≡ port_count) × AreNumbers s.words ports × (get_elem? s.views 0 ≡ some ports) × Begin s.views ports
 
--- ---- what the steps tell
+-- ---- what the steps report
 
 abbrev Knows : Type 0
 Knows = Me (Unit {0}) (List ℕ)

@@ -39,7 +39,7 @@ abbrev pub Made : Media → List Bool → Media → Type 0
 Made a [] b = b ≡ a
 Made a (well ∷ before) b = (mid : Media) × Made a before mid × Leads mid b well
 
--- so many failed in a row: one that succeeds starts the count anew
+-- how many failed in a row: one that succeeds resets the count
 abbrev pub failures_after : ℕ → Bool → ℕ
 failures_after failures true = 0
 failures_after failures false = min (failures + 1) (2 ^ 32 - 1)

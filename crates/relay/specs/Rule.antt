@@ -19,6 +19,6 @@ Keeps x views =
 abbrev pub Reads : Lists → Published → Published → Lists → Type 0
 Reads v x y w = IsAfter y w × StartsWith w v
 
--- a publication puts its list behind those known before
+-- a publication puts its list after those known before
 abbrev pub Adds : Lists → Published → Published → Lists → Type 0
 Adds v x y w = (w ≡ v ++ y.last.value ∷ []) × IsAfter y w

@@ -10,7 +10,7 @@ use std::collections::LinkedList;
 use std::marker::Model;
 use std::sync::Arc;
 
-/// A number for each port: none is out of range.
+/// A number for each port, so that every port is in range.
 const PORTS: usize = 65_536;
 
 /// The ports of the datagrams that were counted, in order, as a thread knows of them. No value of it is made.
@@ -81,8 +81,8 @@ impl Model for Counter {
     ghost invariant = { λ c. ((arc_value c.numbers).shared.table_id.words ≡ port_count) × (c.seat.table_id ≡ (arc_value c.numbers).shared.table_id) × (c.seat.id ≡ 0) };
 }
 
-/// An end that reads. Contracts see the ports that it knows were counted: each reading may know of more, and of none
-/// that the worker didn't count.
+/// An end that reads. Contracts see the ports that it knows were counted: each reading may know of more, but only of
+/// those that the worker counted.
 #[derive(Drop)]
 pub struct PortCounts {
     numbers: Arc<Numbers>,
@@ -145,8 +145,8 @@ impl Counter {
 }
 
 impl PortCounts {
-    /// How many datagrams of this port the worker had passed on, at a moment no earlier than that of the last reading.
-    /// It waits for nobody, takes no memory, and has nobody wait.
+    /// How many datagrams of this port the worker had passed on, at a moment no earlier than that of the last
+    /// reading. It waits for nobody, takes no memory, and makes nobody wait.
     pub fn number(&mut self, port: u16) -> u64
         ensures number { result ≡ number_of port self.new.ports }
         ensures later { GoOn self.new.ports self.old.ports }

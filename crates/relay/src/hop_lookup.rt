@@ -5,7 +5,7 @@ ghost use Rattle.std.specs.FinMap as map;
 use port_pool::RelayTable;
 use sip_uri::Addr;
 
-/// A datagram that goes on: the bytes are those handed in.
+/// A datagram that is forwarded: the bytes are those passed in.
 #[derive(Clone, Copy)]
 pub struct Out<'a> {
     pub from: u16,
@@ -13,7 +13,7 @@ pub struct Out<'a> {
     pub bytes: &'a [u8],
 }
 
-/// Where a datagram at a port goes on, or None where the port has no row.
+/// Where a datagram at a port goes next, or None if the port has no row.
 pub fn forward<'a>(table: &RelayTable, port: u16, bytes: &'a [u8]) -> Option<Out<'a>>
     ensures row { MatchOption result (map.get table.now port ≡ None) (λ out. map.get table.now port ≡ Some (record { to = out.to; from = out.from })) }
     ensures bytes { IfSome result (λ out. out.bytes ≡ bytes.entry) }

@@ -11,7 +11,7 @@ use thiserror::Error;
 #[error("a socket failed")]
 pub struct SocketFault;
 
-/// Sockets at relay ports, by the datagrams that they took, those that they sent, the room that a receive was given,
+/// Sockets at relay ports. Contracts see the datagrams that they took and sent, the room that a receive was given,
 /// and whether the last call failed.
 pub trait MediaSocket {
     ghost taken: { Self → List Taken };
@@ -24,7 +24,7 @@ pub trait MediaSocket {
     /// The bytes of room that the last receive was given.
     ghost room: { Self → ℕ };
 
-    /// Takes a datagram into the buffer, and gives its port and length. None where there is none now. What doesn't fit
+    /// Takes a datagram into the buffer, and returns its port and length. None if there is none now. What doesn't fit
     /// the buffer is cut off.
     fn receive(&mut self, buffer: &mut [u8]) -> Result<Option<(u16, usize)>, SocketFault>
         ensures fits { IfOk result (λ r. IfSome r (λ d. d.1 ≤ length buffer.new)) }
@@ -40,7 +40,7 @@ pub trait MediaSocket {
         ensures room { room self.new ≡ room self.old }
         ensures failed { failed self.new ≡ is_err result };
 
-    /// Waits until a datagram may be there, for a tenth of a second at most.
+    /// Waits until a datagram may be there, for at most a tenth of a second.
     fn wait(&mut self) -> Result<(), SocketFault>
         ensures taken { taken self.new ≡ taken self.old }
         ensures sent { sent self.new ≡ sent self.old }

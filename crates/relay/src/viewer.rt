@@ -30,7 +30,7 @@ impl Sighted for TableReader {
 }
 
 /// A reader with the number of lists that it knows of. It is generic, since the check finds that a generic struct may
-/// go to another thread, and does not where the reader's type is written out.
+/// go to another thread, and does not if the reader's type is written out.
 #[derive(Drop)]
 pub struct Sight<T: Sighted> {
     pub(crate) reader: T,
@@ -69,7 +69,7 @@ fn look(reader: TableReader, port: u16) -> (TableReader, Option<(u64, Option<Hop
 }
 
 impl Viewer {
-    /// The number of lists that are seen, and the row of their table at the port. None where the board is closed.
+    /// The number of lists that are seen, and the row of their table at the port. None if the board is closed.
     pub fn route(&mut self, port: u16) -> Option<(u64, Option<Hop>)>
         ensures later { StartsWith self.new self.old }
         ensures number { IfSome result (λ r. r.0 ≡ length self.new) }
@@ -83,8 +83,8 @@ impl Viewer {
         found
     }
 
-    /// Takes in what the stamp stands for, and uses it up. The stamp is of the same board: then one's lists begin the
-    /// other's.
+    /// Learns the lists of the stamp, and uses the stamp up. The stamp is of the same board, so the lists of one
+    /// begin those of the other.
     pub fn learn(&mut self, stamp: Stamp)
         ensures one { (self.new ≡ self.old) ⊎ (self.new ≡ stamp) }
         ensures number { (length self.old ≤ length self.new) × (length stamp ≤ length self.new) }

@@ -49,7 +49,7 @@ pub struct Worker<S, V = Viewer> {
 impl<S: MediaSocket> Worker<S> {
     ghost use Rattle.relay.specs.Datagrams.{Does, Loses};
 
-    /// Takes the buffer, and has counted nothing. Where memory is refused, both come back.
+    /// Makes the buffer, with nothing counted. If memory is refused, both arguments are returned.
     pub fn new(alloc: Global, viewer: Viewer, socket: S) -> Result<Worker<S>, (Viewer, S)>
         ensures parts { MatchResult result (λ w. (w.viewer ≡ viewer) × (w.socket ≡ socket)) (λ r. r ≡ (viewer, socket)) }
         ensures counted { IfOk result (λ w. w.counter.ports ≡ []) }
@@ -68,8 +68,8 @@ impl<S: MediaSocket> Worker<S> {
         }
     }
 
-    /// Takes one datagram, if one is there, sends it on by the row that is seen at its port, and counts it where it
-    /// went.
+    /// Takes one datagram, if one is there, sends it on by the row that is seen at its port, and counts it if it was
+    /// sent.
     pub fn turn(&mut self) -> Result<Turn, TurnFault>
         ensures did { IfOk result (λ t. Does (table_after self.new.viewer) (S.taken self.old.socket) (S.taken self.new.socket) (S.sent self.old.socket) (S.sent self.new.socket) self.old.counter self.new.counter t) }
         ensures lost { IfErr result (λ f. Loses (table_after self.new.viewer) (S.taken self.old.socket) (S.taken self.new.socket) f) }
@@ -101,7 +101,7 @@ impl<S: MediaSocket> Worker<S> {
         }
     }
 
-    /// Tells the viewer of what the stamp stands for.
+    /// Passes the lists of the stamp to the viewer.
     pub fn learn(&mut self, stamp: Stamp)
         ensures one { (self.new.viewer ≡ self.old.viewer) ⊎ (self.new.viewer ≡ stamp) }
         ensures number { (length self.old.viewer ≤ length self.new.viewer) × (length stamp ≤ length self.new.viewer) }

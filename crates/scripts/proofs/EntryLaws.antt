@@ -185,7 +185,7 @@ again text e rest (inr (inr (inr h))) = datagram_again text e rest h
 pub some_is : {X : Type 0} (x y : X) → Some x ≡ Some y → x ≡ y
 some_is x y h = cc
 
--- what was cut at a byte that stands there
+-- what was cut at a byte that is there
 pub cut_is : (c : ℕ) (text rest : List ℕ) → after c text ≡ Some rest → text ≡ before c text ++ c ∷ rest
 cut_is c text rest h = sym (joined c text) ∙ ap (λ (o : Option (List ℕ)). before c text ++ led_by c o) h
 
@@ -328,7 +328,7 @@ has_values now_text salt_text ip_text port_text length_text x h =
     subst (λ (y : Head). HasValues now_text salt_text ip_text port_text length_text y) (some_is (head now.0 salt.0 ip.0 port.0 count.0) x count.2)
     (record { now_is = now.1; salt_is = salt.1; ip_is = ip.1; port_is = port.1; length_is = count.1 })
 
--- the line, and the bytes behind it
+-- the line, and the bytes after it
 pub datagram_with : (text fields behind : List ℕ) (x : Head) (bytes rest : List ℕ) (n : Entry) → text ≡ lined (spaced (codes "D") fields) behind → SaysHead fields x
     → behind ≡ lined bytes rest → x.count ≡ length bytes → entry (datagram_at x.now x.salt x.source bytes) rest ≡ n → Begins text n.event n.rest
 datagram_with text fields behind x bytes rest n spelled says body long same =

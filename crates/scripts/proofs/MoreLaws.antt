@@ -1,4 +1,4 @@
--- Texts that go on: the events that stand there, and those that more bytes make.
+-- Texts with more added: the events that are there, and those that more bytes make.
 use Rattle.std.proofs.Common.{◌≡◌, ◌≢◌, ℕ, ◌+◌, ◌-◌, ◌<◌, ◌≤◌, Bool, true, false, ◌&&◌, cond, leb, List, [], ◌∷◌, ◌++◌, length, take, drop, get_or, replicate, Option, Some, None, inl, inr, refl, sym, ap, subst, ◌∙◌, arith, append_assoc}
 use Rattle.std.specs.Prelude.{codes, ◌⊎◌}
 use Rattle.std.specs.List.{join_with_byte}
@@ -20,9 +20,9 @@ use Rattle.scripts.specs.Grammar.{spaced, lined, Begins, BeginsNone, NeverBegins
 use Rattle.scripts.proofs.NameLaws.{before_lacks}
 use Rattle.scripts.proofs.EntryLaws.{entry, again, begins_at, timer_by, silent_by, users_by, datagram_by, next_by, body_is, cut_is, spaced_is, head_says, datagram_with, some_is}
 
--- ---- more bytes behind an event
+-- ---- more bytes after an event
 
--- a line, and what stands behind it
+-- a line, and what comes after it
 lined_more : (text line behind more : List ℕ) → text ≡ lined line behind → text ++ more ≡ lined line (behind ++ more)
 lined_more text line behind more h = ap (λ (t : List ℕ). t ++ more) h ∙ append_assoc line (10 ∷ behind) more
 
@@ -88,7 +88,7 @@ begins_more text e rest more (inr (inr (inr b))) = inr (inr (inr (record {
 front_by : (text line bytes rest : List ℕ) → text ≡ lined line (bytes ++ rest) → (front : List ℕ) × (text ≡ front ++ rest)
 front_by text line bytes rest h = (lined line bytes, h ∙ sym (append_assoc line (10 ∷ bytes) rest))
 
--- what stands before the rest
+-- what comes before the rest
 pub front_of : (text : List ℕ) (e : Event) (rest : List ℕ) → Begins text e rest → (front : List ℕ) × (text ≡ front ++ rest)
 front_of text e rest (inl b) = front_by text (spaced (codes "T") (spaced b.now_text b.salt_text)) [] rest b.spelled
 front_of text e rest (inr (inl b)) = front_by text (spaced (codes "Q") (spaced b.now_text (spaced b.salt_text b.call_text))) [] rest b.spelled
@@ -102,18 +102,18 @@ behind_front text front rest h =
     let before : length text - length rest ≡ length front = omega (arith, ap length h, length-append front rest) in
     ap (λ (n : ℕ). drop n text) before ∙ ap (drop (length front)) h ∙ drop-append_seam front rest
 
--- the rest is what stands behind as many bytes as are before it
+-- the rest is what comes after as many bytes as are before it
 pub behind_it : (text : List ℕ) (n : Entry) → next_of text ≡ Some n → Begins text n.event (drop (length text - length n.rest) text)
 behind_it text n h =
     let begins = begins_at text n h in
     let front = front_of text n.event n.rest begins in
     subst (λ (t : List ℕ). Begins text n.event t) (sym (behind_front text front.0 n.rest front.1)) begins
 
--- no other event stands there
+-- there is no other event there
 pub it_alone : (text : List ℕ) (n : Entry) → next_of text ≡ Some n → (e : Event) (rest : List ℕ) → Begins text e rest → n ≡ entry e rest
 it_alone text n h e rest begins = some_is n (entry e rest) (sym h ∙ again text e rest begins)
 
--- ---- more bytes behind a line
+-- ---- more bytes after a line
 
 line_more : (text behind more : List ℕ) → after 10 text ≡ Some behind → (before 10 (text ++ more) ≡ before 10 text) × (after 10 (text ++ more) ≡ Some (behind ++ more))
 line_more text behind more h =
@@ -122,7 +122,7 @@ line_more text behind more h =
     let lacks = before_lacks 10 text in
     (ap (before 10) whole ∙ before_at 10 line (Some (behind ++ more)) lacks, ap (after 10) whole ∙ after_at 10 line (Some (behind ++ more)) lacks)
 
--- an event that stands there with more stands there without it, where it needs none
+-- an event that is there with more bytes added is there without them, if it needs none of them
 abbrev Stands : (List ℕ → Option Entry) → List ℕ → List ℕ → Type 0
 Stands read behind more = (n : Entry) → read (behind ++ more) ≡ Some n → (m : Entry) × (read behind ≡ Some m)
 
@@ -157,7 +157,7 @@ users_stands fields behind more n h =
       users_by fields rest.0 (before 32 fields) (before 32 rest.0) names.0 behind now.0 salt.0 (names_of names.0) refl rest.1 refl names.1 now.1 salt.1 refl,
     )
 
--- the line feed behind a datagram's bytes is there
+-- the line feed after a datagram's bytes is there
 bytes_stand : (x : Head) (behind more : List ℕ) → x.count < length behind → Stands (bytes_of x) behind more
 unfolding bytes_of
 bytes_stand x behind more long n h =
@@ -205,20 +205,20 @@ next_stands text more n whole h = step (after 10 text) refl whole where
       let m = entry_stands (before 32 line) fields.0 behind more enough n read in
       (m.0, next_by text line (before 32 line) fields.0 behind refl is refl fields_is ∙ m.1)
 
--- ---- no event stands there
+-- ---- there is no event
 
 pub none_begins : (text : List ℕ) → next_of text ≡ None → BeginsNone text
 none_begins text none e rest begins = clash (sym (again text e rest begins) ∙ none) where
   clash : Some (entry e rest) ≡ None → ⊥
   clash h = cc
 
--- what ends has something
+-- a text whose end is there is not empty
 pub some_there : (text : List ℕ) → is_cut_off text ≡ false → text ≢ []
 unfolding is_cut_off
 some_there [] whole none = absurd cc
 some_there (b ∷ bs) whole none = cc
 
--- nor ever does
+-- and there never is one
 pub never_begins : (text : List ℕ) → next_of text ≡ None → is_cut_off text ≡ false → NeverBegins text
 never_begins text none whole more e rest begins =
     let m = next_stands text more (entry e rest) whole (again (text ++ more) e rest begins) in
@@ -257,7 +257,7 @@ needs_more text none cut = (none_begins text none, step (after 10 text) refl cut
   step None is cut = inl is
   step (Some behind) is cut = inr (datagram behind is (after 32 (before 10 text)) refl cut)
 
--- ---- events, and more bytes behind them
+-- ---- events, and more bytes after them
 
 pub leads_more : (text : List ℕ) (es : List Event) (rest more : List ℕ) → LeadsTo text es rest → LeadsTo (text ++ more) es (rest ++ more)
 leads_more text [] rest more h = ap (λ (t : List ℕ). t ++ more) h

@@ -63,7 +63,7 @@ names_again (u ∷ v ∷ us) some h =
 pub names_some : (text : List ℕ) → names_of text ≢ []
 names_some text none = absurd (omega (arith, ap length none, length-slice_split (λ b. eqb b 44) text))
 
--- where the text has no line feed, none of them has one, nor a comma
+-- if the text has no line feed, none of them has one, or a comma
 pub names_formed : (text : List ℕ) → Lacks 10 text → list_all is_name (names_of text) ≡ true
 names_formed [] h = refl
 names_formed (b ∷ bs) h = step (eqb b 44) refl (names_of bs) (names_formed bs h.1) where

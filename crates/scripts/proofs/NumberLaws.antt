@@ -16,7 +16,7 @@ bounded most n text h = step (is_run_of is_ascii_digit text) h where
   step true h = number_is most n text h
   step false h = absurd cc
 
--- no other byte than digits stands in a number
+-- a number contains only digits
 pub number_lacks : (c most n : ℕ) (text : List ℕ) → is_ascii_digit c ≡ false → number_of most text ≡ Some n → Lacks c text
 number_lacks c most n text out h = step (is_run_of is_ascii_digit text) refl h where
   step : (b : Bool) → is_run_of is_ascii_digit text ≡ b → cond b (number_upto most text) None ≡ Some n → Lacks c text

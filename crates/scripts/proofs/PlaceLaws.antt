@@ -1,4 +1,4 @@
--- Where the first line stands that begins no event.
+-- The place of the first line that begins no event.
 use Rattle.std.proofs.Common.{◌≡◌, ◌≢◌, ◌≤◌, ◌-◌, ℕ, List, [], ◌∷◌, ◌++◌, length, Some, None, refl, sym, subst, ◌∙◌, arith}
 use Rattle.events.specs.declared.event.Event.{Event}
 use Rattle.scripts.specs.Values.{Entry}
@@ -7,7 +7,7 @@ use Rattle.scripts.specs.Grammar.{Begins, ReadsScript, LeadsTo, IsMalformedAt}
 use Rattle.scripts.proofs.EntryLaws.{entry, again, begins_at}
 use Rattle.scripts.proofs.ScriptLaws.{shorter}
 
--- events stand before what is left
+-- events come before what is left
 pub record Splits (text rest : List ℕ) : Type 0 where
   pub events : List Event
   pub leads : LeadsTo text events rest
@@ -28,7 +28,7 @@ splits_on text rest n splits next = record {
   bound = omega (arith, splits.bound, shorter rest n next);
 }
 
--- none more
+-- no event more
 pub malformed : (text rest : List ℕ) → Splits text rest → rest ≢ [] → next_of rest ≡ None → IsMalformedAt text (length text - length rest)
 malformed text rest splits more none = record {
   events = splits.events;

@@ -72,7 +72,7 @@ refused text so_far rest leads some none es h = let p = leads.only es h in end p
     clash : Some (entry f behind) ≡ None → ⊥
     clash h = cc
 
--- what stands behind an event is shorter
+-- what comes after an event is shorter
 pub shorter : (text : List ℕ) (n : Entry) → next_of text ≡ Some n → length n.rest < length text
 shorter text n h = step (begins_at text n h) where
   step : Begins text n.event n.rest → length n.rest < length text

@@ -14,7 +14,7 @@ use Rattle.scripts.specs.Values.{due_at, silent_at, users_at, datagram_at}
 abbrev pub spaced : List ℕ → List ℕ → List ℕ
 spaced text more = text ++ 32 ∷ more
 
--- a line, its line feed, and what stands behind it
+-- a line, its line feed, and what comes after it
 abbrev pub lined : List ℕ → List ℕ → List ℕ
 lined line behind = line ++ 10 ∷ behind
 
@@ -47,7 +47,7 @@ pub record BeginsSilent (text : List ℕ) (e : Event) (rest : List ℕ) : Type 0
 abbrev pub is_name : List ℕ → Bool
 is_name text = list_all (λ b. not (b == 44 || b == 10)) text
 
--- the text is `U now salt names`, a line feed, and the rest: one name or more, parted by one comma each
+-- the text is `U now salt names`, a line feed, and the rest: one name or more, separated by one comma each
 pub record BeginsUsers (text : List ℕ) (e : Event) (rest : List ℕ) : Type 0 where
   pub now_text : List ℕ
   pub salt_text : List ℕ
@@ -81,11 +81,11 @@ pub record BeginsDatagram (text : List ℕ) (e : Event) (rest : List ℕ) : Type
   pub length_is : number_of max_bytes length_text ≡ Some (length bytes)
   pub event : e ≡ datagram_at now salt (record { ip = ip; port = port }) bytes
 
--- the text begins with this event, and the rest stands behind it
+-- the text begins with this event, and the rest comes after it
 abbrev pub Begins : List ℕ → Event → List ℕ → Type 0
 Begins text e rest = BeginsDue text e rest ⊎ (BeginsSilent text e rest ⊎ (BeginsUsers text e rest ⊎ BeginsDatagram text e rest))
 
--- the text is these events, one behind the other
+-- the text is these events, one after the other
 abbrev pub ReadsScript : List ℕ → List Event → Type 0
 ReadsScript text [] = text ≡ []
 ReadsScript text (e ∷ es) = (rest : List ℕ) × Begins text e rest × ReadsScript rest es
@@ -95,12 +95,12 @@ abbrev pub Refuses : List ℕ → ScriptError → Type 0
 Refuses text OutOfMemory = Unit {0}
 Refuses text Malformed = (es : List Event) → ¬ (ReadsScript text es)
 
--- these events stand at the head of the text, one behind the other, and the rest behind them
+-- these events are at the head of the text, one after the other, and the rest comes after them
 abbrev pub LeadsTo : List ℕ → List Event → List ℕ → Type 0
 LeadsTo text [] rest = text ≡ rest
 LeadsTo text (e ∷ es) rest = (behind : List ℕ) × Begins text e behind × LeadsTo behind es rest
 
--- behind these events something stands at this place that none begins
+-- after these events there is something at this place that begins no event
 pub record IsMalformedAt (text : List ℕ) (at : ℕ) : Type 0 where
   pub events : List Event
   pub rest : List ℕ
@@ -109,17 +109,17 @@ pub record IsMalformedAt (text : List ℕ) (at : ℕ) : Type 0 where
   pub more : rest ≢ []
   pub none : (e : Event) (behind : List ℕ) → ¬ (Begins rest e behind)
 
--- ---- a text that may go on
+-- ---- a text to which more may be added
 
--- no event stands at its head
+-- there is no event at its head
 abbrev pub BeginsNone : List ℕ → Type 0
 BeginsNone text = (e : Event) (rest : List ℕ) → ¬ (Begins text e rest)
 
--- nor does one, whatever comes behind it
+-- and there never is, whatever comes after it
 abbrev pub NeverBegins : List ℕ → Type 0
 NeverBegins text = (more : List ℕ) → BeginsNone (text ++ more)
 
--- what comes behind it can make it an event
+-- what comes after it can make it an event
 abbrev pub IsFront : List ℕ → Type 0
 IsFront text = (more : List ℕ) × (e : Event) × Begins (text ++ more) e []
 
@@ -127,7 +127,7 @@ IsFront text = (more : List ℕ) × (e : Event) × Begins (text ++ more) e []
 abbrev pub NeedsMore : List ℕ → Type 0
 NeedsMore text = BeginsNone text × ((after 10 text ≡ None) ⊎ IsFront text)
 
--- why a text is refused that may go on: there is something, and no event ever begins it
+-- why a text to which more may be added is refused: there is something, and it never begins an event
 abbrev pub RefusesFirst : List ℕ → ScriptError → Type 0
 RefusesFirst text OutOfMemory = Unit {0}
 RefusesFirst text Malformed = (text ≢ []) × NeverBegins text

@@ -61,7 +61,7 @@ head_of fields =
     option_and_then (λ e. head_from (before 32 fields) (before 32 b) (before 32 c) (before 32 d) e)
     (after 32 d)) (after 32 c)) (after 32 b)) (after 32 fields)
 
--- as many bytes, and the line feed behind them
+-- as many bytes, and the line feed after them
 unfoldable pub bytes_of : Head → List ℕ → Option Entry
 bytes_of head behind =
     if nat_lt head.count (length behind) && slice_index behind head.count == 10
@@ -83,16 +83,16 @@ entry_of kind fields behind =
     else (if is_same kind (codes "U") then users_of fields behind
     else (if is_same kind (codes "D") then datagram_of fields behind else None)))
 
--- the event of the first line, with the bytes behind the line
+-- the event of the first line, with the bytes after the line
 unfoldable pub next_of : List ℕ → Option Entry
 next_of text =
     option_and_then (λ fields.
     option_and_then (λ behind. entry_of (before 32 (before 10 text)) fields behind)
     (after 10 text)) (after 32 (before 10 text))
 
--- ---- a text that may go on
+-- ---- a text to which more may be added
 
--- fewer bytes than the line says, or as many and no line feed
+-- fewer bytes than the line says, or as many without a line feed
 abbrev pub lacks_bytes : Option Head → List ℕ → Bool
 lacks_bytes None behind = false
 lacks_bytes (Some head) behind = nat_le (length behind) head.count

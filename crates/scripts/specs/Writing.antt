@@ -1,4 +1,4 @@
--- What is printed of what the server sends, is about and relays.
+-- How the output shows what the server sends, notes and relays.
 use Rattle.std.specs.Prelude.{ℕ, List, ◌++◌, length, codes, decimal}
 use Rattle.sip_uri.specs.declared.uri.Addr.{Addr}
 use Rattle.sip_uri.specs.Writing.{ip4_text}

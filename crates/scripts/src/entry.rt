@@ -13,18 +13,18 @@ use std::alloc::{AllocError, Global};
 use std::marker::Model;
 use text::{Text, Texts, cut};
 
-/// What a line tells of, with the bytes of a datagram or of names where they stand in the script.
+/// What a line is about, with the bytes of a datagram or of names as they are in the script.
 #[derive(Clone, Copy)]
 enum Told<'a> {
     Due,
-    /// No media have come for long in the call of this number.
+    /// For a long time no media have come in the call of this number.
     Silent(u64),
-    /// The users whose names these bytes are, parted by commas, are the office's from now on.
+    /// The users with these names, separated by commas, are the office's from now on.
     Users(&'a [u8]),
     Datagram { source: Addr, bytes: &'a [u8] },
 }
 
-/// The first event of a text, and what stands behind it.
+/// The first event of a text, and what comes after it.
 #[derive(Drop)]
 pub(crate) struct Entry<'a> {
     moment: u64,
@@ -42,7 +42,7 @@ impl<'a> Model for Entry<'a> {
 }
 
 impl<'a> Entry<'a> {
-    /// What stands behind the event. Takes no memory.
+    /// What comes after the event. Takes no memory.
     pub(crate) fn rest(&self) -> &'a [u8]
         ensures { result.now ≡ self.now.rest }
     {
@@ -67,7 +67,7 @@ impl<'a> Entry<'a> {
     }
 }
 
-/// The users whose names these bytes are, parted by commas.
+/// The users with these names, separated by commas.
 fn users(alloc: Global, names: &[u8]) -> Result<What, AllocError>
     ensures { IfOk result (λ what. what ≡ Users (names_of names.now)) }
 {
@@ -185,7 +185,7 @@ fn entry_of<'a>(kind: &'a [u8], fields: &'a [u8], behind: &'a [u8]) -> Option<En
     None
 }
 
-/// The event of the first line, with the bytes behind the line.
+/// The event of the first line, with the bytes after the line.
 #[tactic(auto, unfolding(crate::specs::Reading::next_of))]
 pub(crate) fn next_of(text: &[u8]) -> Option<Entry<'_>>
     ensures { result ≡ next_of text.now }

@@ -3,7 +3,7 @@
 use std::alloc::{AllocError, AllocFailed};
 use thiserror::Error;
 
-/// Why bytes are no script, or want of memory.
+/// Why bytes are no script, or a lack of memory.
 #[derive(Clone, Copy, Debug, Error)]
 pub enum ScriptError {
     #[error("out of memory")]

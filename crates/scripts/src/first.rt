@@ -1,4 +1,4 @@
-//! The first event of a text that may go on.
+//! The first event of a text to which more may be added.
 
 ghost use Rattle.std.specs.Prelude.{◌≡◌, ◌≤◌, ◌-◌, List, ℕ, drop, length, Some, IfErr, IfOk, IfNone, IfSome, MatchResult, option_map};
 ghost use Rattle.events.specs.declared.event.Event.{Event};
@@ -13,7 +13,7 @@ use events::Event;
 use std::alloc::Global;
 use text::cut;
 
-/// Whether fewer bytes stand there than a datagram's and their line feed.
+/// Whether there are fewer bytes than a datagram's and their line feed.
 fn lacks_bytes(head: Option<Head>, behind: &[u8]) -> bool
     ensures { result ≡ lacks_bytes head behind.now }
 {
@@ -45,15 +45,15 @@ fn is_cut_off(text: &[u8]) -> bool
     lacks_datagram(kind, fields, behind)
 }
 
-/// The event at the head of a text that may go on, and how many bytes of the text it is. None where the text is too
-/// short for one.
+/// The event at the head of a text to which more may be added, and how many bytes of the text it takes. None if the
+/// text is too short for one.
 pub fn first_event(alloc: Global, text: &[u8]) -> Result<Option<(Event, usize)>, ScriptError>
-    // The event stands there, and so many bytes are its.
+    // The event is at the head, and takes this many bytes.
     ensures found { IfOk result (λ first. IfSome first (λ f. Begins text.now f.0 (drop f.1 text.now))) }
     ensures bound { IfOk result (λ first. IfSome first (λ f. f.1 ≤ length text.now)) }
-    // None is whole, and its line, or its datagram, has no end.
+    // No event is whole, and its line, or its datagram, has no end.
     ensures more { IfOk result (λ first. IfNone first (NeedsMore text.now)) }
-    // An event that stands there is read, unless memory runs out, and no other.
+    // An event at the head is read, unless memory runs out, and no other.
     ensures only { (e : Event) (rest : List ℕ) → Begins text.now e rest → MatchResult result (λ first. first ≡ Some (e, length text.now - length rest)) (λ x. x ≡ OutOfMemory) }
     // Each refusal has its reason: whatever follows, no event begins.
     ensures refused { IfErr result (RefusesFirst text.now) }

@@ -33,7 +33,7 @@ fn head_from(now: &[u8], salt: &[u8], ip: &[u8], port: &[u8], length: &[u8]) -> 
     })
 }
 
-/// What the fields behind `D` say.
+/// What the fields after `D` say.
 #[tactic(auto, unfolding(crate::specs::Reading::head_of))]
 pub(crate) fn head_of(fields: &[u8]) -> Option<Head>
     ensures { result ≡ head_of fields.now }

@@ -9,7 +9,7 @@ use text::is_run_of_digits;
 
 const MAX_PORT: u32 = 65_535;
 
-/// The bytes of a datagram at most.
+/// The maximum number of bytes in a datagram.
 const MAX_BYTES: u32 = 65_535;
 
 fn value_of(digits: &[u8]) -> Option<u64>
@@ -29,7 +29,7 @@ fn value_of(digits: &[u8]) -> Option<u64>
     Some(number)
 }
 
-/// A number that a text says: one decimal digit or more and nothing else, below 2^64. Takes no memory.
+/// The number in a text: one or more decimal digits and nothing else, below 2^64. Takes no memory.
 pub fn number_of(text: &[u8]) -> Option<u64>
     ensures { result ≡ number_of max_number text.now }
 {

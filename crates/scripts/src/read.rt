@@ -1,4 +1,4 @@
-//! Reading of scripts.
+//! Reading scripts.
 
 ghost use Rattle.std.specs.Prelude.{◌≡◌, List, IfOk, IfErr, IfNone, IfSome, MatchResult};
 ghost use Rattle.events.specs.declared.event.Event.{Event};
@@ -27,11 +27,11 @@ fn read(alloc: Global, text: &[u8]) -> Result<Vec<Event>, ScriptError>
     Ok(events)
 }
 
-/// The events of a script, in order. A text of none is a script without events.
+/// The events of a script, in order. An empty text is a script without events.
 pub fn read_script(alloc: Global, text: &[u8]) -> Result<Vec<Event>, ScriptError>
-    // What is read are the events that the text is.
+    // What is read is the events that the text contains.
     ensures found { IfOk result (λ events. ReadsScript text.now events.items) }
-    // A script is read, unless memory runs out, and is no other events.
+    // A script is read, unless memory runs out, and as no other events.
     ensures only { (es : List Event) → ReadsScript text.now es → MatchResult result (λ events. events.items ≡ es) (λ e. e ≡ OutOfMemory) }
     // Each refusal has its reason.
     ensures refused { IfErr result (λ e. Refuses text.now e) }
@@ -39,10 +39,10 @@ pub fn read_script(alloc: Global, text: &[u8]) -> Result<Vec<Event>, ScriptError
     read(alloc, text)
 }
 
-/// Where the first line stands that begins no event, as a count of the bytes before it; none where the text is a
-/// script. Takes no memory.
+/// The place of the first line that begins no event, as a count of the bytes before it; none if the text is a script.
+/// Takes no memory.
 pub fn malformed_at(text: &[u8]) -> Option<usize>
-    // Events stand before it, and none begins there.
+    // Events come before it, and none begins there.
     ensures some { IfSome result (IsMalformedAt text.now) }
     // The text is a script.
     ensures none { IfNone result ((es : List Event) × ReadsScript text.now es) }

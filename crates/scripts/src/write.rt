@@ -1,4 +1,4 @@
-//! What is printed of what the server sends, is about and relays.
+//! How the output shows what the server sends, notes and relays.
 
 ghost use Rattle.std.specs.Prelude.{◌≡◌, ◌++◌, OnOk, OnErr};
 ghost use Rattle.sip_uri.specs.Writing.{BeginsWith};
@@ -33,8 +33,7 @@ fn put_head(out: &mut Vec<u8>, to: Addr, count: u64) -> Result<(), AllocError>
     Ok(())
 }
 
-/// Writes `S ip port length`, a line feed, the bytes and a line feed behind what is there. Where memory runs out, a
-/// part may be written there.
+/// Appends `S ip port length`, a line feed, the bytes and a line feed. If memory runs out, a part may be written.
 pub fn put_sent(out: &mut Vec<u8>, sent: &Sent) -> Result<(), AllocError>
     ensures ok { OnOk result (out.new.items ≡ out.old.items ++ sent_text sent.now) }
     ensures err { OnErr result (BeginsWith out.old.items out.new.items) }
@@ -46,7 +45,7 @@ pub fn put_sent(out: &mut Vec<u8>, sent: &Sent) -> Result<(), AllocError>
     Ok(())
 }
 
-/// Writes `call NUMBER PHASE` and a line feed behind what is there. Where memory runs out, a part may be written there.
+/// Appends `call NUMBER PHASE` and a line feed. If memory runs out, a part may be written.
 pub fn put_call(out: &mut Vec<u8>, number: u64, phase: &[u8]) -> Result<(), AllocError>
     ensures ok { OnOk result (out.new.items ≡ out.old.items ++ call_text number phase.now) }
     ensures err { OnErr result (BeginsWith out.old.items out.new.items) }
@@ -59,8 +58,7 @@ pub fn put_call(out: &mut Vec<u8>, number: u64, phase: &[u8]) -> Result<(), Allo
     Ok(())
 }
 
-/// Writes `hop PORT IP PORT FROM`, the row of a port, and a line feed behind what is there. Where memory runs out, a
-/// part may be written there.
+/// Appends `hop PORT IP PORT FROM`, the row of a port, and a line feed. If memory runs out, a part may be written.
 pub fn put_hop(out: &mut Vec<u8>, port: u16, hop: Hop) -> Result<(), AllocError>
     ensures ok { OnOk result (out.new.items ≡ out.old.items ++ hop_text port hop) }
     ensures err { OnErr result (BeginsWith out.old.items out.new.items) }

@@ -1,4 +1,4 @@
--- The address of a c= line: found where it is written, and read where it is found.
+-- The address of a c= line: found if it is written, and read if it is found.
 use Rattle.std.proofs.Common.{◌≡◌, ℕ, zero, suc, ◌^◌, ◌≤◌, ◌<◌, Bool, true, false, not, ◌&&◌, ◌||◌, cond, eqb, leb, List, [], ◌∷◌, ◌++◌, length, take, drop, get_or, Option, Some, None, refl, sym, ap, subst, ◌∙◌, arith, codes}
 use Rattle.std.specs.Prelude.{decimal, nat_eq}
 use Rattle.std.specs.List.{list_all}

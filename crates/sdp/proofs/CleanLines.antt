@@ -48,7 +48,7 @@ clean_line_at text at rest lt unmarked h =
     let ends : Ends (take at text) rest text = subst (λ (t : List ℕ). Ends (take at text) rest t) (take-append-drop at text) (ends_here (take at text) (drop at text) rest h) in
     clean_first (take at text) rest text (clean_upto text at (omega arith) unmarked) ends
 
--- what stands behind a line end is shorter
+-- what comes after a line end is shorter
 behind_lf_shorter : (bs rest : List ℕ) → behind_lf bs ≡ Some rest → length rest < length bs
 behind_lf_shorter bs rest h = rw (lf_is bs rest h) (omega arith)
 
@@ -67,7 +67,7 @@ no_lines : lines_of [] ≡ []
 unfolding lines_of
 no_lines = refl
 
--- where nothing is left, the lines so far are all
+-- if nothing is left, the lines so far are all
 pub all_lines : (lines : List (List ℕ)) (rest text : List ℕ) → eqb (length rest) 0 ≡ true → lines ++ lines_of rest ≡ lines_of text → lines ≡ lines_of text
 all_lines lines rest text none so_far =
     let empty : rest ≡ [] = nil_from_length rest (eqb-true _ _ none) in

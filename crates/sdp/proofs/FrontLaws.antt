@@ -91,7 +91,7 @@ pub begin_apart : (set others : List ℕ) → list_all (λ y. not (is_one_of oth
 begin_apart set others dis [] h = refl
 begin_apart set others dis (l ∷ ls) h = apart set others dis l (and_parts (begins set l) (list_all (begins set) ls) h).0
 
--- ---- where what is left is of these types, all is
+-- ---- if what is left is of these types, all is
 
 pub from_less_one : (set all : List ℕ) → list_all (is_one_of all) set ≡ true → (ls : List (List ℕ)) → list_all (begins all) (less_one set ls) ≡ true → list_all (begins all) ls ≡ true
 from_less_one set all sub [] h = refl

@@ -73,7 +73,7 @@ connection_found (Some l) h = by_address (address_of (value_on l)) refl where
   by_address None e = absurd (true≢false (sym (good None e facts.2)))
   by_address (Some a) e = (value_on l, ap (λ (x : List ℕ). x ∷ []) (typed_line 99 l facts.0 facts.1), address_found (value_on l) a e)
 
--- what a c= says, with lines of other types behind it
+-- what a c= says, with lines of other types after it
 pub record ConnectionIs (lines more : List (List ℕ)) (c : Option Address) : Type 0 where
   pub first : connection_of (first_of (codes "c") (lines ++ more)) ≡ c
   pub rest : less_one (codes "c") (lines ++ more) ≡ more

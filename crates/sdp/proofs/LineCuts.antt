@@ -1,4 +1,4 @@
--- The first line of a text, and the lines behind it.
+-- The first line of a text, and the lines after it.
 use Rattle.std.proofs.Common.{◌≡◌, ℕ, suc, ◌<◌, Bool, true, false, ◌&&◌, cond, eqb, List, [], ◌∷◌, ◌++◌, length, Some, None, refl, sym, ap, ◌∙◌, arith}
 use Rattle.std.specs.List.{slice_split, onto_first}
 use Rattle.text.specs.Cut.{before, after}
@@ -8,7 +8,7 @@ use Rattle.sdp.specs.Lines.{without_cr, lines_from, lines_of}
 abbrev parts : List ℕ → List (List ℕ)
 parts text = slice_split (λ b. eqb b 10) text
 
--- the first piece, and the pieces behind it
+-- the first piece, and the pieces after it
 pub pieces_at : (text rest : List ℕ) → after 10 text ≡ Some rest → parts text ≡ before 10 text ∷ parts rest
 pieces_at [] rest h = absurd cc
 pieces_at (b ∷ bs) rest h = step (eqb b 10) h (λ k. pieces_at bs rest k) where

@@ -1,4 +1,4 @@
--- The types of lines that stand in order, and lines before and behind the first m=.
+-- The types of lines that are in order, and lines before and after the first m=.
 use Rattle.std.proofs.Common.{◌≡◌, ℕ, Bool, true, false, not, ◌&&◌, cond, List, [], ◌∷◌, ◌++◌, refl, sym, ap, codes}
 use Rattle.std.specs.List.{list_all}
 use Rattle.std.proofs.lemmas.Bool.{and_parts, true≢false}

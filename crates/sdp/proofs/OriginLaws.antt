@@ -25,7 +25,7 @@ space_joined t some = step (after 32 t) refl where
       let behind : behind_space t ≡ rest = ap (λ (x : Option (List ℕ)). unwrap_or x []) e in
       sym (joined 32 t) ∙ ap (λ (x : Option (List ℕ)). before 32 t ++ led_by 32 x) e ∙ ap (λ (x : List ℕ). before 32 t ++ 32 ∷ x) (sym behind)
 
--- what stands before the first space is some text, so the whole is
+-- if what comes before the first space is not empty, the whole is not either
 pub front_some : (t : List ℕ) → (before 32 t ≡ [] → ⊥) → t ≡ [] → ⊥
 front_some t some e = some (ap (before 32) e)
 

@@ -51,7 +51,7 @@ as_read lines value a whole same is formed =
     let lines_same : lines ≡ connection_lines (Some a) = whole ∙ ap (λ (x : List ℕ). (codes "c=" ++ x) ∷ []) same in
     record { said = (address_text a, refl, subst (λ (x : List ℕ). IsAddress x a) same is); formed = sym (ap (list_all is_formed) lines_same) ∙ formed }
 
--- a unicast address whose four octets are read where they are written
+-- a unicast address whose four octets are read back as written
 pub ip4_written : (octets : List ℕ) → ip4_of (ip4_text octets) ≡ Some octets → IsTrue (is_unicast octets) → Written (SaysConnection (connection_lines (Some (Ip4 octets))) (Some (Ip4 octets))) (connection_lines (Some (Ip4 octets)))
 ip4_written octets again unicast =
     let dotted = (octets_are (ip4_text octets) octets again).dotted in
@@ -79,7 +79,7 @@ is_port_written : (n : ℕ) → n ≤ max_media_port → is_port (decimal n) ≡
 unfolding is_number
 is_port_written n le = and_from _ _ (decimal_run n (omega arith)) (rw (port_again n le) refl)
 
--- digits that do not begin with 0 are no 0
+-- digits that do not begin with 0 are not 0
 some_digits : (t : List ℕ) → is_run_of is_ascii_digit t ≡ true → begins (codes "0") t ≡ false → 0 < digits_value 10 t
 some_digits [] h k = absurd (true≢false (sym h))
 some_digits (c ∷ cs) h k =
@@ -220,7 +220,7 @@ medium_written value m s =
     let small : m.port ≤ max_media_port = subst (λ (n : ℕ). n ≤ max_media_port) (sym s.port) (port_small (number_upto max_media_port s.raw.port) s.raw.port refl) in
     medium_of m s.raw (form_of s.raw s.form) s.kind small (count_of_line value m s) s.proto s.formats
 
--- the line of a medium but for its port
+-- the line of a medium except for its port
 pub record SameLine (m n : Media) : Type 0 where
   pub kind : n.kind ≡ m.kind
   pub count : n.count ≡ m.count

@@ -22,7 +22,7 @@ use Rattle.sdp.proofs.RoundTrip.{ended_lines, text_from_lacks, Written, connecti
 
 -- ---- the form
 
--- a connection that is read where it is written
+-- a connection that is read back as written
 abbrev pub ConnectionForm : Option Address → Type 0
 ConnectionForm c = Written (SaysConnection (connection_lines c) c) (connection_lines c)
 

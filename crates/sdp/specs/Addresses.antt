@@ -12,7 +12,7 @@ use Rattle.sdp.specs.Classes.{begins, is_integer, is_word}
 
 -- ---- four octets
 
--- one digit or more without a leading 0, at most 255
+-- one or more digits without a leading 0, at most 255
 unfoldable pub octet_of : List ℕ → Option ℕ
 octet_of text =
     if is_run_of is_ascii_digit text && (length text == 1 || not (begins (codes "0") text)) then number_upto 255 text else None
@@ -56,7 +56,7 @@ is_name_byte b = is_ascii_alphanumeric b || is_one_of (codes "-.") b
 abbrev pub is_dotted_byte : ℕ → Bool
 is_dotted_byte b = is_ascii_digit b || b == 46
 
--- four or more letters, digits, hyphens and dots (FQDN), not digits and dots alone
+-- four or more letters, digits, hyphens and dots (FQDN), not only digits and dots
 unfoldable pub is_name : List ℕ → Bool
 is_name text = nat_le 4 (length text) && list_all is_name_byte text && not (list_all is_dotted_byte text)
 
@@ -79,7 +79,7 @@ unfoldable pub inet_of : List ℕ → Option Address
 inet_of text =
     if is_name text then Some (Name text) else (if is_multicast text then Some (Multicast text) else unicast_of (ip4_of text))
 
--- what stands behind this front, if the text has it
+-- what comes after this front, if the text has it
 abbrev pub behind : List ℕ → List ℕ → Option (List ℕ)
 behind front text = if pointwise nat_eq (take (length front) text) front then Some (drop (length front) text) else None
 

@@ -1,4 +1,4 @@
--- Classes of bytes, and what is made of them (RFC 4566 section 9).
+-- Classes of bytes, and texts made of them (RFC 4566 section 9).
 use Rattle.std.specs.Prelude.{ℕ, Bool, false, not, ◌&&◌, ◌||◌, ◌==◌, nat_le, List, [], ◌∷◌, codes}
 use Rattle.std.specs.List.{list_all, slice_split}
 use Rattle.std.specs.Char.{is_ascii_alphanumeric, is_ascii_digit}
@@ -32,7 +32,7 @@ begins set (b ∷ bs) = is_one_of set b
 unfoldable pub is_number : List ℕ → Bool
 is_number text = is_run_of is_ascii_digit text
 
--- one or more digits, of which the first is not 0 (integer)
+-- one or more digits, the first of which is not 0 (integer)
 unfoldable pub is_integer : List ℕ → Bool
 is_integer text = is_run_of is_ascii_digit text && not (begins (codes "0") text)
 

@@ -1,4 +1,4 @@
--- Which texts are descriptions, by the lines that they are made of, to be read beside RFC 4566 section 5.
+-- Which texts are descriptions, by the lines that they are made of, to be read alongside RFC 4566 section 5.
 use Rattle.std.specs.Prelude.{◌≡◌, ℕ, IsTrue, List, [], ◌∷◌, ◌++◌, map, codes, Option, Some, None}
 use Rattle.std.specs.List.{list_all}
 use Rattle.sdp.specs.declared.address.Address.{Address}
@@ -49,7 +49,7 @@ pub record BeginsMedium (lines more : List (List ℕ)) (m : Media) : Type 0 wher
   pub says_medium : SaysMedium value m
   pub says_under : SaysUnder under m
 
--- the lines are these media, one behind the other
+-- the lines are these media, one after the other
 abbrev pub SaysMedia : List (List ℕ) → List Media → Type 0
 SaysMedia lines [] = lines ≡ []
 SaysMedia lines (m ∷ ms) = (more : List (List ℕ)) × BeginsMedium lines more m × SaysMedia more ms
@@ -80,7 +80,7 @@ pub record ReadsDescription (text : List ℕ) (d : Description) : Type 0 where
 
 -- ---- refusals
 
--- the lines of the text stand in order, and each is of its form
+-- the lines of the text are in order, and each is well formed
 pub record HasForm (text : List ℕ) : Type 0 where
   pub ordered : IsTrue (is_ordered (lines_of text))
   pub formed : IsTrue (list_all is_formed (lines_of text))
@@ -91,7 +91,7 @@ pub record HasHead (text : List ℕ) : Type 0 where
   pub version : IsTrue (is_version (lines_of text))
   pub origin : IsTrue (has_origin (lines_of text))
 
--- and each c= and m= is of its form
+-- and each c= and m= is well formed
 pub record HasParts (text : List ℕ) : Type 0 where
   pub head : HasHead text
   pub connections : IsTrue (list_all is_good_connection (lines_of text))

@@ -11,7 +11,7 @@ use Rattle.sdp.specs.Classes.{is_text_byte}
 abbrev pub Ends : List ℕ → List ℕ → List ℕ → Type 0
 Ends line rest text = (text ≡ line ++ 10 ∷ rest) ⊎ (text ≡ line ++ 13 ∷ 10 ∷ rest)
 
--- the text is these lines, each with its end, which may be missing behind the last
+-- the text is these lines, each with its end, which may be missing after the last
 abbrev pub IsLines : List (List ℕ) → List ℕ → Type 0
 IsLines [] text = text ≡ []
 IsLines (line ∷ lines) text = ((lines ≡ []) × (text ≡ line)) ⊎ ((rest : List ℕ) × Ends line rest text × IsLines lines rest)
@@ -23,7 +23,7 @@ abbrev pub without_cr : List ℕ → List ℕ
 without_cr [] = []
 without_cr (b ∷ bs) = if b == 13 && length bs == 0 then [] else b ∷ without_cr bs
 
--- of the pieces between LF each but the last is a line, and so is the last where it is not empty
+-- of the pieces between LFs, each except the last is a line, and so is the last if it is not empty
 abbrev pub lines_from : List (List ℕ) → List (List ℕ)
 lines_from [] = []
 lines_from (last ∷ []) = if length last == 0 then [] else last ∷ []
@@ -32,12 +32,12 @@ lines_from (piece ∷ next ∷ pieces) = without_cr piece ∷ lines_from (next �
 unfoldable pub lines_of : List ℕ → List (List ℕ)
 lines_of text = lines_from (slice_split (λ b. b == 10) text)
 
--- what stands behind the LF that a text begins with
+-- what comes after the LF that a text begins with
 abbrev pub behind_lf : List ℕ → Option (List ℕ)
 behind_lf [] = None
 behind_lf (b ∷ bs) = if b == 10 then Some bs else None
 
--- what stands behind the line end that a text begins with
+-- what comes after the line end that a text begins with
 abbrev pub behind_line_end : List ℕ → Option (List ℕ)
 behind_line_end [] = None
 behind_line_end (b ∷ bs) = if b == 10 then Some bs else (if b == 13 then behind_lf bs else None)
@@ -48,7 +48,7 @@ behind_line_end (b ∷ bs) = if b == 10 then Some bs else (if b == 13 then behin
 abbrev pub is_clean : List ℕ → Bool
 is_clean line = list_all is_text_byte line
 
--- the byte behind the type is `=`
+-- the byte after the type is `=`
 abbrev pub has_mark : List ℕ → Bool
 has_mark [] = false
 has_mark (letter ∷ []) = false

@@ -17,7 +17,7 @@ pub record RawMedium : Type 0 where
 abbrev pub raw_medium_text : RawMedium → List ℕ
 raw_medium_text r = r.kind ++ 32 ∷ (r.port ++ (led_by 47 r.count ++ 32 ∷ (r.proto ++ 32 ∷ r.formats)))
 
--- kind, port and protocol end where the next space stands
+-- kind, port and protocol each end at the next space
 unfoldable pub raw_medium_of : List ℕ → RawMedium
 raw_medium_of text =
     let ports = before 32 (behind_space text) in
@@ -37,7 +37,7 @@ is_port text = is_number text && is_some (number_upto max_media_port text)
 abbrev pub is_count : List ℕ → Bool
 is_count text = is_integer text && is_some (number_upto max_media_port text)
 
--- the formats: one token or more
+-- the formats: one or more tokens
 abbrev pub formats_of : List ℕ → List (List ℕ)
 formats_of text = slice_split (λ b. b == 32) text
 

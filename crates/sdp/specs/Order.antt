@@ -1,5 +1,5 @@
--- The order of the lines of a description, by their first bytes (RFC 4566 section 5): v o s i u e p c b t r z k a, and
--- per medium m i c b k a. s and at least one t stand. e, p, b, t with its r, and a may repeat.
+-- The order of the lines of a description, by their first bytes (RFC 4566 section 5): v o s i u e p c b t r z k a,
+-- and per medium m i c b k a. s and at least one t are required. e, p, b, t with its r, and a may repeat.
 use Rattle.std.specs.Prelude.{ℕ, Bool, false, ◌&&◌, ◌==◌, List, [], ◌∷◌, length, codes, Option, Some, None, if◌then◌else◌}
 use Rattle.std.specs.List.{list_all}
 use Rattle.sdp.specs.Classes.{begins}
@@ -55,7 +55,7 @@ before_lines rest = front_of (codes "siuep") rest
 abbrev pub connection_in : List (List ℕ) → Option (List ℕ)
 connection_in rest = first_of (codes "c") (less_all (codes "siuep") rest)
 
--- the session's lines behind those
+-- the session's lines after those
 abbrev pub after_lines : List (List ℕ) → List (List ℕ)
 after_lines rest = less_one (codes "c") (less_all (codes "siuep") rest)
 
@@ -83,7 +83,7 @@ groups [] = []
 groups (line ∷ lines) =
     if begins (codes "m") line then record { medium = line; under = upto_medium lines } ∷ groups lines else groups lines
 
--- the medium's i=, its c=, and the lines behind those
+-- the medium's i=, its c=, and the lines after those
 abbrev pub info_under : List (List ℕ) → Option (List ℕ)
 info_under under = first_of (codes "i") under
 

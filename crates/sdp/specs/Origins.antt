@@ -1,15 +1,15 @@
--- The value of an o= line (RFC 4566 sections 5.2 and 9): six fields with single spaces.
+-- The value of an o= line (RFC 4566 sections 5.2 and 9): six fields separated by single spaces.
 use Rattle.std.specs.Prelude.{◌≡◌, ℕ, Bool, ◌&&◌, IsTrue, List, [], unwrap_or}
 use Rattle.text.specs.Cut.{before, after}
 use Rattle.sdp.specs.declared.description.Origin.{Origin}
 use Rattle.sdp.specs.Classes.{is_token, is_word, is_number}
 use Rattle.sdp.specs.Writing.{origin_text}
 
--- what stands behind the first space: nothing, where there is none
+-- what comes after the first space: nothing if there is none
 abbrev pub behind_space : List ℕ → List ℕ
 behind_space text = unwrap_or (after 32 text) []
 
--- each field ends where the next space stands
+-- each field ends at the next space
 unfoldable pub origin_of : List ℕ → Origin
 origin_of text =
     let a = behind_space text in
@@ -25,7 +25,7 @@ origin_of text =
       address = behind_space d;
     }
 
--- user name and address are not looked into
+-- user name and address are not checked
 unfoldable pub is_origin : Origin → Bool
 is_origin o =
     is_word o.username && is_number o.id && is_number o.version && is_token o.network_type && is_token o.address_type && is_word o.address

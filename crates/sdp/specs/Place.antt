@@ -1,4 +1,4 @@
--- Where a medium is wanted: an address and a port.
+-- Where a medium is to be sent: an address and a port.
 use Rattle.std.specs.Prelude.{ℕ}
 use Rattle.sdp.specs.declared.address.Address.{Address}
 

@@ -1,4 +1,4 @@
--- Where a medium of a description is wanted (RFC 4566 sections 5.7 and 5.14).
+-- Where a medium of a description is to be sent (RFC 4566 sections 5.7 and 5.14).
 use Rattle.std.specs.Prelude.{Option, option_map}
 use Rattle.std.specs.Option.{option_or}
 use Rattle.sdp.specs.declared.address.Address.{Address}
@@ -6,7 +6,7 @@ use Rattle.sdp.specs.declared.description.Description.{Description}
 use Rattle.sdp.specs.declared.description.Media.{Media}
 use Rattle.sdp.specs.Place.{Place}
 
--- the medium's own address, else the session's
+-- the medium's own address, or otherwise the session's
 abbrev pub address_of_medium : Description → Media → Option Address
 address_of_medium d m = option_or m.connection d.connection
 

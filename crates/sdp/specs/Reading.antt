@@ -56,7 +56,7 @@ media_of group =
       after = map line_of (after_under group.under);
     }
 
--- the line behind the first
+-- the line after the first
 abbrev pub second : List (List ℕ) → List ℕ
 second [] = []
 second (version ∷ []) = []
@@ -98,7 +98,7 @@ judgment d =
 
 -- ---- all
 
--- the lines say version and origin, and each c= and m= is of its form
+-- the lines say version and origin, and each c= and m= is well formed
 abbrev pub is_sound : List (List ℕ) → Bool
 is_sound lines = is_version lines && has_origin lines && list_all is_good_connection lines && list_all is_good_medium lines
 

@@ -8,7 +8,7 @@ use Rattle.sdp.specs.declared.line.Line.{Line}
 use Rattle.sdp.specs.declared.way.Way.{Way}
 use Rattle.sdp.specs.declared.way.Way.TheVariants.{SendReceive, SendOnly, ReceiveOnly, Inactive}
 
--- a direction attribute is the whole value, and its case counts
+-- a direction attribute is the whole value, and its case matters
 abbrev pub way_named : List ℕ → Option Way
 way_named text =
     if pointwise nat_eq text (codes "sendrecv") then Some SendReceive
@@ -17,7 +17,7 @@ way_named text =
     else (if pointwise nat_eq text (codes "inactive") then Some Inactive
     else None)))
 
--- the direction that a line says, where it is an attribute `a=`
+-- the direction that a line says, if it is an attribute `a=`
 abbrev pub way_on : Line → Option Way
 way_on line = if line.letter == 97 then way_named line.value else None
 
@@ -26,11 +26,11 @@ abbrev pub first_way : List Line → Option Way
 first_way [] = None
 first_way (line ∷ lines) = option_or (way_on line) (first_way lines)
 
--- the medium's own direction, else the session's, else both ways
+-- the medium's own direction, or otherwise the session's, or otherwise both ways
 unfoldable pub way_of : Description → Media → Way
 way_of d m = unwrap_or (option_or (first_way m.after) (first_way d.after)) SendReceive
 
--- whether whoever wrote the description sends, and whether it receives
+-- whether the side that wrote the description sends, and whether it receives
 abbrev pub sends : Way → Bool
 sends SendReceive = true
 sends SendOnly = true

@@ -14,13 +14,13 @@ use Rattle.sdp.specs.declared.line.Line.{Line}
 abbrev pub line_text : Line → List ℕ
 line_text line = line.letter ∷ 61 ∷ line.value
 
--- lines, each with CR LF behind it
+-- lines, each followed by CR LF
 abbrev pub ended : List (List ℕ) → List ℕ
 ended lines = flat_map (λ line. line ++ 13 ∷ 10 ∷ []) lines
 
 -- ---- o= (section 5.2)
 
--- six fields with single spaces
+-- six fields separated by single spaces
 abbrev pub origin_text : Origin → List ℕ
 origin_text o =
     o.username ++ 32 ∷ (o.id ++ 32 ∷ (o.version ++ 32 ∷ (o.network_type ++ 32 ∷ (o.address_type ++ 32 ∷ o.address))))
@@ -44,14 +44,14 @@ abbrev pub connection_lines : Option Address → List (List ℕ)
 connection_lines None = []
 connection_lines (Some address) = (codes "c=" ++ address_text address) ∷ []
 
--- ---- m= and what stands under it (section 5.14)
+-- ---- m= and what is under it (section 5.14)
 
 -- `/count`
 abbrev pub count_text : Option ℕ → List ℕ
 count_text None = []
 count_text (Some count) = 47 ∷ decimal count
 
--- each behind a space
+-- each after a space
 abbrev pub formats_text : List (List ℕ) → List ℕ
 formats_text formats = flat_map (λ format. 32 ∷ format) formats
 

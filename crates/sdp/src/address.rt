@@ -8,7 +8,7 @@ pub enum Address<'a> {
     Ip4([u8; 4]),
     /// Address type `IP4`: an address from 224.0.0.0 to 239.255.255.255 with `/ttl`, and perhaps `/count`, as written.
     Multicast(Text<'a>),
-    /// Address type `IP6`: the text behind it, as written.
+    /// Address type `IP6`: the text after it, as written.
     Ip6(Text<'a>),
     /// Address type `IP4`: a host name, as written.
     Name(Text<'a>),

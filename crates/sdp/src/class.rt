@@ -1,4 +1,4 @@
-//! Classes of bytes, and what is made of them (RFC 4566 section 9).
+//! Classes of bytes, and texts made of them (RFC 4566 section 9).
 
 ghost use Rattle.std.specs.Prelude.{◌≡◌, ◌==◌};
 ghost use Rattle.std.specs.List.{list_all, slice_split};
@@ -7,7 +7,7 @@ ghost use Rattle.sdp.specs.Lines.{has_mark};
 
 use text::is_run_of_digits;
 
-/// Whether the byte behind the type is `=`.
+/// Whether the byte after the type is `=`.
 pub(crate) fn has_mark(line: &[u8]) -> bool
     ensures { result ≡ has_mark line.now }
 {
@@ -17,7 +17,7 @@ pub(crate) fn has_mark(line: &[u8]) -> bool
     }
 }
 
-/// Each byte of a token stands at its own place, and `@` at every other place.
+/// Each byte of a token is at its own place, and `@` is at every other place.
 static TOKEN_CHARS: [u8; 256] = *b"\
     @@@@@@@@@@@@@@@@@@@@@@@@@@@@@@@@\
     @!@#$%&'@@*+@-.@0123456789@@@@@@\
@@ -59,7 +59,7 @@ fn all_visible(text: &[u8]) -> bool
     text.iter().all(|b| is_visible(*b))
 }
 
-/// Whether the text is one byte or more, none of them a blank or a control byte.
+/// Whether the text is one or more bytes, none of them a blank or a control byte.
 #[tactic(auto, unfolding(crate::specs::Classes::is_word))]
 pub(crate) fn is_word(text: &[u8]) -> bool
     ensures { result ≡ is_word text.now }
@@ -84,7 +84,7 @@ pub(crate) fn is_number(text: &[u8]) -> bool
     is_run_of_digits(text)
 }
 
-/// Whether the text is digits, of which the first is not 0.
+/// Whether the text is digits, the first of which is not 0.
 #[tactic(auto, unfolding(crate::specs::Classes::is_integer))]
 pub(crate) fn is_integer(text: &[u8]) -> bool
     ensures { result ≡ is_integer text.now }

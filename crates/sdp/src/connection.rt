@@ -106,7 +106,7 @@ fn is_name(text: &[u8]) -> bool
     text.len() >= 4 && !all_dotted(text) && all_name(text)
 }
 
-/// The address of type `IP4` that the text is.
+/// The address of type `IP4` in the text.
 #[tactic(auto, unfolding(crate::specs::Addresses::inet_of))]
 fn inet(text: &[u8]) -> Option<Address<'_>>
     ensures { result ≡ inet_of text.now }

@@ -5,8 +5,8 @@ use crate::line::Lines;
 use std::marker::Model;
 use text::{Text, Texts};
 
-/// The fields of an `o=` line (RFC 4566 section 5.2), as written. Of a description that was read the id and the version
-/// are decimal digits.
+/// The fields of an `o=` line (RFC 4566 section 5.2), as written. In a description that was read, the id and the
+/// version are decimal digits.
 pub struct Origin<'a> {
     pub username: Text<'a>,
     pub id: Text<'a>,
@@ -29,16 +29,16 @@ impl Drop for Origin<'_> {
     }
 }
 
-/// A medium: an `m=` line and what stands under it (RFC 4566 sections 5 and 5.14). Of a description that was read a
+/// A medium: an `m=` line and the lines under it (RFC 4566 sections 5 and 5.14). In a description that was read, a
 /// count is 1 or more, and there is a format.
 pub struct Media<'a> {
-    /// What is sent, as `audio`.
+    /// What is sent, such as `audio`.
     pub kind: Text<'a>,
-    /// 0 where the medium is not used.
+    /// 0 if the medium is not used.
     pub port: u16,
-    /// How many ports, where a number is written behind the port.
+    /// How many ports, if a number is written after the port.
     pub count: Option<u16>,
-    /// The transport protocol, as `RTP/AVP`.
+    /// The transport protocol, such as `RTP/AVP`.
     pub proto: Text<'a>,
     /// In order of preference.
     pub formats: Texts<'a>,
@@ -46,7 +46,7 @@ pub struct Media<'a> {
     pub info: Option<Text<'a>>,
     /// The address of the `c=` line.
     pub connection: Option<Address<'a>>,
-    /// The lines behind those: `b`, `k` and `a`.
+    /// The lines after those: `b`, `k` and `a`.
     pub after: Lines<'a>,
 }
 
@@ -112,7 +112,7 @@ pub struct Description<'a> {
     pub before: Lines<'a>,
     /// The address of the session's `c=` line.
     pub connection: Option<Address<'a>>,
-    /// The session's lines behind those: `b`, `t`, `r`, `z`, `k` and `a`.
+    /// The session's lines after those: `b`, `t`, `r`, `z`, `k` and `a`.
     pub after: Lines<'a>,
     pub media: MediaList<'a>,
 }

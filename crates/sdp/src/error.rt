@@ -1,4 +1,4 @@
-//! Why a text is no description.
+//! Why a text is not a description.
 
 ghost use Rattle.std.specs.Prelude.{◌≡◌};
 ghost use Rattle.sdp.specs.declared.error.DescriptionError.TheVariants.{OutOfMemory};
@@ -6,12 +6,12 @@ ghost use Rattle.sdp.specs.declared.error.DescriptionError.TheVariants.{OutOfMem
 use std::alloc::{AllocError, AllocFailed};
 use thiserror::Error;
 
-/// Why a text is no description (RFC 4566): the first fault in the order of the variants, or want of memory.
+/// Why a text is not a description (RFC 4566): the first fault in the order of the variants, or a lack of memory.
 #[derive(Clone, Copy, Debug, Error)]
 pub enum DescriptionError {
     #[error("out of memory")]
     OutOfMemory,
-    /// The lines do not stand in order, by their first bytes.
+    /// The lines are not in order, by their first bytes.
     #[error("S1: lines out of order")]
     Order,
     /// A line is not `type=value`, or its value has a NUL or CR.
@@ -20,16 +20,16 @@ pub enum DescriptionError {
     /// The version is not 0.
     #[error("S3: bad version")]
     Version,
-    /// The `o=` line has not six fields of their forms.
+    /// The `o=` line does not have six well-formed fields.
     #[error("S4: bad origin")]
     Origin,
-    /// A `c=` line has no address.
+    /// A `c=` line does not have an address.
     #[error("S5: bad connection")]
     Connection,
-    /// An `m=` line has not the parts of a medium.
+    /// An `m=` line does not have the parts of a medium.
     #[error("S6: bad medium")]
     Medium,
-    /// A medium with a port that is not 0 has no address, nor has the session.
+    /// A medium with a port that is not 0 has no address, and neither does the session.
     #[error("S7: no connection for a medium")]
     NoConnection,
     /// There are more than 8 media.

@@ -1,4 +1,4 @@
-//! Tests of lines that stand in order, and of the description that they are.
+//! Tests of lines that are in order, and of the description that they form.
 
 ghost use Rattle.std.specs.Prelude.{◌≡◌, ◌==◌, nat_le, length};
 ghost use Rattle.std.specs.List.{list_all};
@@ -20,7 +20,7 @@ const MAX_MEDIA: usize = 8;
 /// Formats in a medium.
 const MAX_FORMATS: usize = 32;
 
-/// Whether in each line the byte behind the type is `=`.
+/// Whether in each line the byte after the type is `=`.
 fn have_marks(lines: &[&[u8]]) -> bool
     ensures { result ≡ list_all has_mark (texts lines.now) }
 {
@@ -32,7 +32,7 @@ fn have_marks(lines: &[&[u8]]) -> bool
     true
 }
 
-/// Whether each line is `type=value`, where it is known whether all are clean of CR, LF and NUL.
+/// Whether each line is `type=value`, given whether all are clean of CR, LF and NUL.
 #[tactic(auto, using(crate::proofs::CleanLines::formed_by_parts))]
 pub(crate) fn are_formed(lines: &[&[u8]], clean: bool) -> bool
     requires { clean ≡ list_all is_clean (texts lines.now) }

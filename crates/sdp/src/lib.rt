@@ -1,5 +1,5 @@
 //! Descriptions of sessions (RFC 4566): what bytes say of media, the bytes of a description, and where and which way
-//! each medium goes. Reading is pinned on every text: a description is found exactly where the bytes are one, and a
+//! each medium goes. Reading is specified for every text: a description is found exactly if the bytes are one, and a
 //! refusal names the first fault. Nothing here knows of SIP, offers or answers.
 #![tactic(auto)]
 

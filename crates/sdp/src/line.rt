@@ -3,8 +3,8 @@
 use std::marker::Model;
 use text::Text;
 
-/// A line `type=value` (RFC 4566 section 5): the type is one letter, whose case counts. Of a description that was read
-/// the value is any bytes but NUL, CR and LF.
+/// A line `type=value` (RFC 4566 section 5): the type is one letter, whose case matters. In a description that was
+/// read, the value is any bytes except NUL, CR and LF.
 pub struct Line<'a> {
     pub letter: u8,
     pub value: Text<'a>,

@@ -55,7 +55,7 @@ impl<'a> MediumParts<'a> {
     ghost use Rattle.std.specs.Prelude.{◌≡◌};
     ghost use Rattle.sdp.specs.MediumLines.{raw_medium_of, is_raw_medium, port_of, count_of};
 
-    /// The parts of a text: kind, port and protocol end where the next space stands.
+    /// The parts of a text: kind, port and protocol each end at the next space.
     #[tactic(auto, unfolding(crate::specs::MediumLines::raw_medium_of))]
     pub(crate) fn of(text: &'a [u8]) -> MediumParts<'a>
         ensures { result ≡ raw_medium_of text.now }
@@ -73,7 +73,7 @@ impl<'a> MediumParts<'a> {
         }
     }
 
-    /// Whether each part is of its form.
+    /// Whether each part is well formed.
     #[tactic(auto, unfolding(crate::specs::MediumLines::is_raw_medium))]
     pub(crate) fn is_well_formed(&self) -> bool
         ensures { result ≡ is_raw_medium self.now }
@@ -101,7 +101,7 @@ impl<'a> MediumParts<'a> {
     }
 }
 
-/// The formats of a text, which stand with single spaces between them.
+/// The formats of a text, with single spaces between them.
 pub(crate) fn formats_of(alloc: Global, text: &[u8]) -> Result<Texts<'_>, AllocError>
     ensures { IfOk result (λ formats. formats ≡ formats_of text.now) }
 {

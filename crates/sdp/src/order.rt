@@ -116,7 +116,7 @@ fn is_media_after(lines: &[&[u8]]) -> bool
     less_all(rest, b"a").is_empty()
 }
 
-/// Whether the lines under an `m=` stand in order.
+/// Whether the lines under an `m=` are in order.
 fn is_under(lines: &[&[u8]]) -> bool
     ensures { result ≡ is_media_after (after_under (texts lines.now)) }
 {
@@ -136,7 +136,7 @@ fn are_groups(lines: &[&[u8]]) -> bool
     true
 }
 
-/// Whether the lines of a description stand in order.
+/// Whether the lines of a description are in order.
 #[tactic(auto, unfolding(crate::specs::Order::is_ordered))]
 pub(crate) fn is_ordered(lines: &[&[u8]]) -> bool
     ensures { result ≡ is_ordered (texts lines.now) }

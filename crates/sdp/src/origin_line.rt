@@ -9,7 +9,7 @@ use crate::description::Origin;
 use std::marker::Model;
 use text::{Text, cut};
 
-/// What stands before the first space, and what stands behind it: nothing, where there is none.
+/// What comes before the first space, and what comes after it: nothing if there is none.
 pub(crate) fn cut_space(text: &[u8]) -> (&[u8], &[u8])
     ensures front { result.0.now ≡ before 32 text.now }
     ensures back { result.1.now ≡ behind_space text.now }
@@ -20,7 +20,7 @@ pub(crate) fn cut_space(text: &[u8]) -> (&[u8], &[u8])
     }
 }
 
-/// Six fields with single spaces.
+/// Six fields separated by single spaces.
 #[derive(Drop)]
 pub(crate) struct OriginParts<'a> {
     username: &'a [u8],
@@ -50,7 +50,7 @@ impl<'a> OriginParts<'a> {
     ghost use Rattle.std.specs.Prelude.{◌≡◌};
     ghost use Rattle.sdp.specs.Origins.{origin_of, is_origin};
 
-    /// The fields of a text: each ends where the next space stands.
+    /// The fields of a text: each ends at the next space.
     #[tactic(auto, unfolding(crate::specs::Origins::origin_of))]
     pub(crate) fn of(text: &'a [u8]) -> OriginParts<'a>
         ensures { result ≡ origin_of text.now }
@@ -70,7 +70,7 @@ impl<'a> OriginParts<'a> {
         }
     }
 
-    /// Whether each field is of its form.
+    /// Whether each field is well formed.
     #[tactic(auto, unfolding(crate::specs::Origins::is_origin))]
     pub(crate) fn is_well_formed(&self) -> bool
         ensures { result ≡ is_origin self.now }
@@ -83,7 +83,7 @@ impl<'a> OriginParts<'a> {
             && is_word(self.address)
     }
 
-    /// The origin that the fields are. Takes no memory.
+    /// The origin with these fields. Takes no memory.
     pub(crate) fn origin(&self) -> Origin<'a>
         ensures { result ≡ self.now }
     {

@@ -1,4 +1,4 @@
-//! Where a medium is wanted.
+//! Where a medium is to be sent.
 
 ghost use Rattle.std.specs.Prelude.{◌≡◌};
 ghost use Rattle.sdp.specs.PlaceOf.{place_of};
@@ -22,8 +22,8 @@ impl<'m, 'a> Model for Place<'m, 'a> {
     ghost view = { λ p. record { address = p.address.now; port = p.port } };
 }
 
-/// Where the medium of this description is wanted: at its own address, else at the session's, with its port (RFC 4566
-/// sections 5.7 and 5.14). `None` where neither has an address.
+/// Where the medium of this description is to be sent: to its own address, or otherwise to the session's, with its
+/// port (RFC 4566 sections 5.7 and 5.14). `None` if neither has an address.
 pub fn place_of<'m, 'a>(
     description: &'m Description<'a>,
     medium: &'m Media<'a>,

@@ -1,4 +1,4 @@
-//! Reading of descriptions.
+//! Reading descriptions.
 
 ghost use Rattle.std.specs.Prelude.{◌≡◌, Ok, Err, IfOk, IfErr, IsTrue};
 ghost use Rattle.sdp.specs.declared.description.Description.{Description};
@@ -19,7 +19,7 @@ use std::alloc::Global;
 #[tactic(auto, unfolding(crate::specs::Reading::said_by))]
 fn read_lines<'a>(alloc: Global, lines: &[&'a [u8]]) -> Result<Description<'a>, DescriptionError>
     ensures description { Gives result (said_by (texts lines.now)) }
-    // No memory is asked for before each line has passed.
+    // No memory is allocated until each line has passed.
     ensures memory { result ≡ Err DescriptionError.OutOfMemory → IsTrue (is_sound (texts lines.now)) }
 {
     if !is_version(lines) {
@@ -51,8 +51,8 @@ fn read(alloc: Global, bytes: &[u8]) -> Result<Description<'_>, DescriptionError
     read_lines(alloc, &lines)
 }
 
-/// The description that the bytes are (RFC 4566). Of several faults the first in the order of `DescriptionError` is
-/// given.
+/// The description in the bytes (RFC 4566). Of several faults, the first in the order of `DescriptionError` is
+/// returned.
 pub fn read_description(alloc: Global, bytes: &[u8]) -> Result<Description<'_>, DescriptionError>
     // What is read is the description that the bytes are.
     ensures found { IfOk result (λ d. ReadsDescription bytes.now d) }

@@ -10,7 +10,7 @@ use memchr::memchr3;
 use std::alloc::{AllocError, Global};
 use text::cut;
 
-/// About how many bytes a line has, its end included.
+/// About how many bytes a line has, including its end.
 const BYTES_A_LINE: usize = 16;
 
 /// The text without a CR at its end.
@@ -23,7 +23,7 @@ fn without_cr(text: &[u8]) -> &[u8]
     if *last == b'\r' { front } else { text }
 }
 
-/// The first line, if it has its end, and what stands behind that.
+/// The first line, if it has its end, and what comes after that.
 #[tactic(auto, using(crate::proofs::LineCuts::line_ended, crate::proofs::LineCuts::line_not_ended, crate::proofs::LineCuts::rest_is_shorter))]
 fn ended_line(text: &[u8]) -> Option<(&[u8], &[u8])>
     ensures line { IfSome result (λ x. lines_of text.now ≡ x.0.now ∷ lines_of x.1.now) }
@@ -44,7 +44,7 @@ fn behind_lf(text: &[u8]) -> Option<&[u8]>
     }
 }
 
-/// What stands behind the line end, LF or CR LF, that the text begins with.
+/// What comes after the line end, LF or CR LF, that the text begins with.
 fn behind_line_end(text: &[u8]) -> Option<&[u8]>
     ensures { option_copied result ≡ behind_line_end text.now }
 {
@@ -55,7 +55,7 @@ fn behind_line_end(text: &[u8]) -> Option<&[u8]>
     }
 }
 
-/// The first line, where it has its end and no other CR and no NUL, and what stands behind its end.
+/// The first line, if it has its end and no other CR and no NUL, and what comes after its end.
 fn clean_line(text: &[u8]) -> Option<(&[u8], &[u8])>
     ensures line { IfSome result (λ x. lines_of text.now ≡ x.0.now ∷ lines_of x.1.now) }
     ensures clean { IfSome result (λ x. is_clean x.0.now ≡ true) }
@@ -66,7 +66,7 @@ fn clean_line(text: &[u8]) -> Option<(&[u8], &[u8])>
     Some((&text[..at], rest))
 }
 
-/// The lines at the front that have their ends and no other CR and no NUL, and what stands behind them.
+/// The leading lines that have their ends and no other CR and no NUL, and what comes after them.
 fn clean_lines(alloc: Global, text: &[u8]) -> Result<(Vec<&[u8]>, &[u8]), AllocError>
     ensures lines { IfOk result (λ x. texts x.0.items ++ lines_of x.1.now ≡ lines_of text.now) }
     ensures clean { IfOk result (λ x. list_all is_clean (texts x.0.items) ≡ true) }
@@ -92,7 +92,7 @@ fn is_clean(text: &[u8]) -> bool
     text.iter().all(|b| is_text_byte(*b))
 }
 
-/// The lines of a text, each with its end, which may be missing behind the last.
+/// The lines of a text, each with its end, which may be missing after the last.
 fn ended_lines(alloc: Global, text: &[u8]) -> Result<Vec<&[u8]>, AllocError>
     ensures { IfOk result (λ lines. texts lines.items ≡ lines_of text.now) }
 {
@@ -119,8 +119,8 @@ fn are_clean(lines: &[&[u8]]) -> bool
     true
 }
 
-/// The lines of a text, and whether none has a CR or a NUL. Each ends with LF or CR LF, which may be missing behind the
-/// last.
+/// The lines of a text, and whether none has a CR or a NUL. Each ends with LF or CR LF, which may be missing after
+/// the last.
 pub(crate) fn lines_of(alloc: Global, text: &[u8]) -> Result<(Vec<&[u8]>, bool), AllocError>
     ensures lines { IfOk result (λ x. texts x.0.items ≡ lines_of text.now) }
     ensures clean { IfOk result (λ x. x.1 ≡ list_all is_clean (lines_of text.now)) }

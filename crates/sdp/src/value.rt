@@ -1,4 +1,4 @@
-//! What lines mean, which stand in order and are of their forms.
+//! The meaning of lines that are in order and well formed.
 
 ghost use Rattle.std.specs.Prelude.{◌≡◌, map, option_map, drop, IfOk};
 ghost use Rattle.std.specs.Option.{option_copied};
@@ -110,7 +110,7 @@ fn all_media<'a>(alloc: Global, lines: &[&'a [u8]]) -> Result<MediaList<'a>, All
     Ok(MediaList::from_vec(media))
 }
 
-/// The line behind the first.
+/// The line after the first.
 pub(crate) fn second<'a>(lines: &[&'a [u8]]) -> &'a [u8]
     ensures { result.now ≡ second (texts lines.now) }
 {

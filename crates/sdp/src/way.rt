@@ -6,7 +6,7 @@ ghost use Rattle.sdp.specs.WayOf.{way_named, way_on, first_way, way_of, sends, r
 use crate::description::{Description, Media};
 use crate::line::Line;
 
-/// The direction of a medium, from whoever wrote the description (RFC 3264 section 5.1, RFC 4566 section 6).
+/// The direction of a medium, from the side that wrote the description (RFC 3264 section 5.1, RFC 4566 section 6).
 #[derive(Clone, Copy)]
 pub enum Way {
     SendReceive,
@@ -19,7 +19,7 @@ impl Way {
     ghost use Rattle.std.specs.Prelude.{◌≡◌};
     ghost use Rattle.sdp.specs.WayOf.{sends, receives};
 
-    /// Whether whoever wrote the description sends.
+    /// Whether the side that wrote the description sends.
     pub fn sends(self) -> bool
         ensures { result ≡ sends self }
     {
@@ -29,7 +29,7 @@ impl Way {
         }
     }
 
-    /// Whether whoever wrote the description receives.
+    /// Whether the side that wrote the description receives.
     pub fn receives(self) -> bool
         ensures { result ≡ receives self }
     {
@@ -77,8 +77,8 @@ fn first_way(lines: &[Line<'_>]) -> Option<Way>
     None
 }
 
-/// Which way the medium of this description goes: as the first direction attribute among its own lines says, else as
-/// the first among the session's, else both ways (RFC 4566 section 6, RFC 3264 section 5.1).
+/// Which way the medium of this description goes. The first direction attribute among its own lines decides, or
+/// otherwise the first among the session's; without any it goes both ways (RFC 4566 section 6, RFC 3264 section 5.1).
 #[tactic(auto, unfolding(crate::specs::WayOf::way_of))]
 pub fn way_of(description: &Description<'_>, medium: &Media<'_>) -> Way
     ensures { result ≡ way_of description.now medium.now }

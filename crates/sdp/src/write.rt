@@ -1,4 +1,4 @@
-//! Writing of descriptions.
+//! Writing descriptions.
 
 ghost use Rattle.std.specs.Prelude.{◌≡◌, ◌++◌, ◌∷◌, [], ℕ, List, map, OnOk, IfOk, decimal};
 ghost use Rattle.std.specs.List.{flat_map};

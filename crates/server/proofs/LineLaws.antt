@@ -13,7 +13,7 @@ use Rattle.server.specs.declared.lines.Field.{Field}
 use Rattle.server.specs.Notes.{IsLineOf, Says}
 use Rattle.server.specs.Lines.{max_word, max_shown, max_fields, is_plain, last_digit, shown_byte, shown, dashed, dashed_text, words_text, seconds_text, value_text, field_text, line_text, is_printable, IsLine, Tells}
 
--- printable, and so many bytes at most
+-- printable, and at most `most` bytes
 pub record Fits (most : ℕ) (text : List ℕ) : Type 0 where
   pub printable : list_all is_printable text ≡ true
   pub bounded : length text ≤ most
@@ -135,7 +135,7 @@ is_line word fields few =
       bounded = omega (arith, few, fits.bounded, long);
     }
 
--- ---- what is told
+-- ---- what is logged
 
 pub tells_line : (r : Result (Unit {0}) AllocError) (before behind word : List ℕ) (fields : List Field) → length fields ≤ max_fields
     → OnOk r (behind ≡ before ++ line_text word fields) → OnOk r (Tells before behind)

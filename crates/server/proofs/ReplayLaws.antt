@@ -32,7 +32,7 @@ pub example_keeps : first_broken example ≡ None
 unfolding first_broken has_relay_ports has_address has_users is_user_list has_lifetime has_longest_lifetime has_domain has_silence_limit has_length_limit has_share is_host ip4_of is_hostname
 example_keeps = refl
 
--- an office that breaks no rule is refused for want of memory alone
+-- an office that breaks no rule is refused only because memory ran out
 pub only_memory : (c : Config) (e : ConfigError) → first_broken c ≡ None → RefusesConfig c e → config_fault e ≡ OutOfMemory
 only_memory c refusals.OutOfMemory kept h = refl
 only_memory c refusals.RelayPorts kept h = let bad = sym kept ∙ h in cc
@@ -68,7 +68,7 @@ pub after_more : (agent : Contents) (es : List Event) (e : Event) → after_all 
 after_more agent [] e = refl
 after_more agent (x ∷ es) e = after_more (after agent x) es e
 
--- ---- what is told
+-- ---- what is logged
 
 pub not_told : (notes : Bool) (text : List ℕ) → notes ≡ false → TellsIf notes text text
 not_told true text h = absurd cc
@@ -85,7 +85,7 @@ event_told (Err x) notes agent e held held_after before text sends tells h = tt
 event_told (Ok done) notes agent e held held_after before text sends (note, is, same) h =
     (note, is, subst (λ (t : List ℕ). Appends held held_after t) (same ∙ ap (λ (t : List ℕ). t ++ note) sends) h)
 
--- ---- a run with what is told, and one event more
+-- ---- a run with what is logged, and one event more
 
 run_begins : (notes : Bool) (agent : Contents) → IsRun notes agent [] []
 run_begins true agent = refl
@@ -140,7 +140,7 @@ stopped_at (Err x) notes agent events i e held now held_after is h k =
 
 -- ---- the whole
 
--- behind all that was sent stands what there is at the end
+-- after all that was sent comes the state at the end
 pub day_told : (r : Result (Unit {0}) Fault) (notes : Bool) (agent at_end : Contents) (events : List Event) (held now held_after : Option (List ℕ))
     → at_end ≡ after_all agent events → WritesRun notes agent events held now → OnOk r (Appends now held_after (state_text at_end))
     → OnOk r (WritesDay notes agent events held held_after)
@@ -157,7 +157,7 @@ day_stopped : (notes : Bool) (agent : Contents) (events : List Event) (e : Fault
 day_stopped notes agent events e held now held_after h k =
     subst (λ (es : List Event). RunLeaves notes agent es e held held_after) (append-nil events) (stopped notes agent events [] e held now held_after h k)
 
--- what stands at the end could not be written
+-- the state at the end could not be written
 pub day_not_told : (r : Result (Unit {0}) Fault) (notes : Bool) (agent : Contents) (events : List Event) (held now held_after : Option (List ℕ))
     → WritesRun notes agent events held now → IfErr r (λ e. EventLeaves e now held_after)
     → IfErr r (λ e. RunLeaves notes agent events e held held_after)
@@ -199,7 +199,7 @@ office_leaves notes config script held Output h = absurd h
 office_leaves notes config script held Socket h = absurd h
 office_leaves notes config script held OutOfMemory h = inl (keeps_same held)
 
--- a fault of the script, behind an office
+-- a fault of the script, after an office was read
 pub script_leaves : (notes : Bool) (config : Option (Option (List ℕ))) (script held : Option (List ℕ)) (office : Config) (e : Fault)
     → IsOffice config office → IsOfScript script e → ReplayLeaves notes config script e held held
 script_leaves notes config script held office Input is h = (office, is, keeps_same held)

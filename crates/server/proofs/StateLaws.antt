@@ -22,7 +22,7 @@ one_port_more rows n start so_far then h k =
     k ∙ ap (λ (t : List ℕ). t ++ hop_line rows n) h ∙ append_assoc start (hops_below rows n) (hop_line rows n)
     ∙ ap (λ (t : List ℕ). start ++ t) (sym (hops_more rows n))
 
--- behind the last port
+-- after the last port
 pub all_ports : {E : Type 0} (r : Result (Unit {0}) E) (rows : Rows) (n : ℕ) (start so_far then : List ℕ) → n ≡ 65535
     → so_far ≡ start ++ hops_below rows n → OnOk r (then ≡ so_far ++ hop_line rows 65535) → OnOk r (then ≡ start ++ hops_below rows 65536)
 all_ports (Ok done) rows n start so_far then is h k =

@@ -28,8 +28,8 @@ of_event text at scripts.OutOfMemory h = tt
 
 -- ---- an input, as far as it was read
 
--- what was taken, the events in it, and the bytes behind them; the agent stands behind these events, and their text is
--- written
+-- what was taken, the events in it, and the bytes after them; the agent is the one after these events, and their text
+-- is written
 pub record Followed (notes : Bool) (agent here : Contents) (left now held wrote : Option (List ℕ)) (tail : List ℕ) (at : ℕ) : Type 0 where
   pub text : List ℕ
   pub events : List Event
@@ -223,12 +223,12 @@ end_not_followed (Err e) notes agent here left now now_after held wrote tail tai
     (bytes_followed notes agent here left now now_after held wrote tail tail_after at at_after count f grows same) end.1
     (subst BeginsNone (sym end.0) needs.0) h
 
--- a fault that is handed on
+-- a fault that is passed on
 pub stops_as : (r : Result (Unit {0}) Fault) (leaves : Fault → Type 0) (e : Fault) → IsErrAnd r (λ y. y ≡ e) → leaves e → IfErr r leaves
 stops_as (Ok done) leaves e is h = absurd is
 stops_as (Err x) leaves e is h = subst leaves (sym is) h
 
--- behind all that was sent stands what there is at the end
+-- after all that was sent comes the state at the end
 pub day_followed : (r : Result (Unit {0}) Fault) (notes : Bool) (agent here : Contents) (left now held wrote wrote_after : Option (List ℕ))
     → FollowsRun notes agent here left now held wrote → OnOk r (Appends wrote wrote_after (state_text here)) → OnOk r (FollowsDay notes agent left now held wrote_after)
 day_followed (Ok done) notes agent here left now held wrote wrote_after (text, events, reads, is, here_is, writes) h =

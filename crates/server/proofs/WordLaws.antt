@@ -25,7 +25,7 @@ pub office_is_free : is_simple_and_free office_app ≡ true
 unfolding clap_on_literals
 office_is_free = refl
 
--- ---- what stands for an argument
+-- ---- the value of an argument
 
 head_is : (vs : List (Bor (List ℕ))) → option_map (λ s. s.now) (slice_get vs 0) ≡ slice_get (texts vs) 0
 head_is [] = refl

@@ -1,4 +1,4 @@
--- How a run of the program ends, and what the shell and the user are told.
+-- How a run of the program ends, and what the shell and the user see.
 use Rattle.std.specs.Prelude.{◌≡◌, ℕ, List, Option, Some, None, option_map}
 use Rattle.std.specs.Io.KnownBytes.{Keeps}
 use Rattle.server.specs.declared.ending.Ending.{Ending}

@@ -30,7 +30,7 @@ unread_config Output = Config None
 unread_config Socket = Config None
 unread_config OutOfMemory = OutOfMemory
 
--- of the event that begins so many bytes from the head of a script
+-- of the event that begins `at` bytes from the head of a script
 abbrev pub event_fault : ScriptError → ℕ → Fault
 event_fault scripts.Malformed at = Script at
 event_fault scripts.OutOfMemory at = OutOfMemory

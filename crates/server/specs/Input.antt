@@ -2,7 +2,7 @@
 use Rattle.std.specs.Prelude.{◌≡◌, ℕ, List, take, Option}
 use Rattle.std.specs.Io.KnownBytes.{Consumes, IsAtEnd}
 
--- of a datagram that is read, no more is kept than shows that it is too long
+-- at most this much of a datagram is kept, which is enough to see that it is too long
 abbrev pub max_kept : ℕ
 max_kept = 16385
 

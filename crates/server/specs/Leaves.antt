@@ -82,7 +82,7 @@ IsOfConfig file Output = ⊥
 IsOfConfig file Socket = ⊥
 IsOfConfig file OutOfMemory = Unit {0}
 
--- the fault of a configuration is that of the file that was handed over for it
+-- the fault of a configuration is that of the file that was given for it
 abbrev pub IsWrongFile : Option (Option (List ℕ)) → Option ConfigFault → Type 0
 IsWrongFile None fault = ⊥
 IsWrongFile (Some file) fault = IsWrongIn file fault

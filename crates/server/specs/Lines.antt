@@ -1,4 +1,4 @@
--- Lines for whoever watches the server: a word, and behind it keys with their values.
+-- Lines for those who watch the server: a word, followed by keys with their values.
 use Rattle.std.specs.Prelude.{◌≡◌, ◌==◌, ◌≤◌, ◌⊎◌, ◌+◌, ◌/◌, ◌%◌, ℕ, Bool, true, not, ◌&&◌, nat_le, nat_lt, List, [], ◌∷◌, ◌++◌, length, take, codes, decimal, if◌then◌else◌}
 use Rattle.std.specs.List.{flat_map, list_all}
 use Rattle.text.specs.Class.{is_one_of}
@@ -8,7 +8,7 @@ use Rattle.server.specs.declared.lines.Field.{Field}
 
 -- ---- numbers
 
--- so many bytes of a word, a key or a number are shown, and so many of another text
+-- how many bytes are shown of a word, a key or a number, and below it, of any other text
 abbrev pub max_word : ℕ
 max_word = 20
 
@@ -24,7 +24,7 @@ max_line = 4096
 
 -- ---- the escape
 
--- it is no space, ends no value, and asks for no quotes
+-- it is no space, ends no value, and needs no quotes
 abbrev pub is_plain : ℕ → Bool
 is_plain b = nat_lt 32 b && nat_lt b 127 && not (is_one_of (codes "\"'=\\`") b)
 
@@ -36,7 +36,7 @@ last_digit n = if nat_lt (n % 16) 10 then 48 + n % 16 else 87 + n % 16
 abbrev pub shown_byte : ℕ → List ℕ
 shown_byte b = if is_plain b then b ∷ [] else codes "\\x" ++ last_digit (b / 16) ∷ last_digit b ∷ []
 
--- so many bytes of a text at most, and a mark where there are more
+-- at most `most` bytes of a text, and a mark if there are more
 abbrev pub shown : ℕ → List ℕ → List ℕ
 shown most text = if nat_le (length text) most then flat_map shown_byte text else flat_map shown_byte (take most text) ++ codes "..."
 
@@ -53,7 +53,7 @@ dashed b = if b == 32 then 45 else b
 abbrev pub dashed_text : List ℕ → List ℕ
 dashed_text words = flat_map (λ b. shown_byte (dashed b)) words
 
--- so many bytes at most
+-- at most `most` bytes
 abbrev pub words_text : ℕ → List ℕ → List ℕ
 words_text most words = if nat_le (length words) most then dashed_text words else dashed_text (take most words)
 
@@ -86,6 +86,6 @@ pub record IsLine (text : List ℕ) : Type 0 where
 abbrev pub IsSaid : List ℕ → Type 0
 IsSaid text = (text ≡ []) ⊎ IsLine text
 
--- this was written behind what was there
+-- this was appended to what was there
 abbrev pub Tells : List ℕ → List ℕ → Type 0
 Tells before behind = (text : List ℕ) × IsSaid text × (behind ≡ before ++ text)

@@ -1,4 +1,4 @@
--- The word that begins the line of a note, as docs/OPERATORS.md has them.
+-- The word that begins the line of a note, as docs/OPERATORS.md lists them.
 use Rattle.std.specs.Prelude.{◌≡◌, ◌⊎◌, ◌++◌, ℕ, Bool, true, false, List, [], codes}
 use Rattle.call_core.specs.declared.note.CallNote.{CallNote}
 use Rattle.call_core.specs.declared.note.CallNote.TheVariants as calls
@@ -7,7 +7,7 @@ use Rattle.plans.specs.declared.note.Note.TheVariants.{Quiet, Call, Refused, Reg
 use Rattle.server.specs.declared.lines.Field.{Field}
 use Rattle.server.specs.Lines.{line_text, IsLine}
 
--- of what happened to a call; which of three an answer inside it has, its descriptions say
+-- for what happened to a call; the descriptions say which of three words an answer inside it has
 abbrev pub IsWordOfCall : CallNote → List ℕ → Type 0
 IsWordOfCall calls.Begun word = word ≡ codes "call-begun"
 IsWordOfCall (calls.Ringing status) word = word ≡ codes "call-ringing"
@@ -29,7 +29,7 @@ word_of_change true was_held = codes "call-held"
 word_of_change false true = codes "call-resumed"
 word_of_change false false = codes "call-changed"
 
--- of an event
+-- for an event
 abbrev pub IsWordOf : Note → List ℕ → Type 0
 IsWordOf Quiet word = ⊥
 IsWordOf (Call note) word = IsWordOfCall note.note word
@@ -46,6 +46,6 @@ pub record IsLineOf (IsWord : List ℕ → Type 0) (text : List ℕ) : Type 0 wh
   pub written : text ≡ line_text word fields
   pub line : IsLine text
 
--- nothing, or such a line, was written behind what was there
+-- nothing, or such a line, was appended to what was there
 abbrev pub Says : (List ℕ → Type 0) → List ℕ → List ℕ → Type 0
 Says IsWord before behind = (text : List ℕ) × ((text ≡ []) ⊎ IsLineOf IsWord text) × (behind ≡ before ++ text)

@@ -1,5 +1,5 @@
 -- What `replay` writes for a script: the text of all that the agent sends, event by event, on an office to which
--- nothing has happened, and what stands at the end.
+-- nothing has happened, and the state at the end.
 use Rattle.std.specs.Prelude.{◌≡◌, ◌≢◌, ℕ, Bool, true, false, List, [], ◌∷◌, ◌++◌, ◌⊎◌, fold, Option, Some, None}
 use Rattle.std.specs.List.{flat_map}
 use Rattle.std.specs.Io.KnownBytes.{Appends, Keeps}
@@ -37,24 +37,24 @@ text_of sent = flat_map sent_text sent
 abbrev pub run_text : Contents → List Event → List ℕ
 run_text agent events = text_of (sends_of agent events)
 
--- ---- what is told of events
+-- ---- what is logged about events
 
--- what is told of an event, where that is asked for
+-- what is logged about an event, if that is asked for
 abbrev pub IsNote : Bool → List ℕ → Type 0
 IsNote false note = note ≡ []
 IsNote true note = IsSaid note
 
--- this was written behind what was there
+-- this was appended to what was there
 abbrev pub TellsIf : Bool → List ℕ → List ℕ → Type 0
 TellsIf notes before behind = (note : List ℕ) × IsNote notes note × (behind ≡ before ++ note)
 
--- the text of what is sent, and behind that of each event what is told of it
+-- the text of what is sent, and after that of each event what is logged about it
 abbrev pub IsNotedRun : Contents → List Event → List ℕ → Type 0
 IsNotedRun agent [] text = text ≡ []
 IsNotedRun agent (e ∷ es) text =
     (note : List ℕ) × (rest : List ℕ) × IsSaid note × IsNotedRun (after agent e) es rest × (text ≡ text_of (row agent e).plan.sends ++ note ++ rest)
 
--- the same where that is asked for, and else the text of what is sent and nothing else
+-- the same if that is asked for, and otherwise the text of what is sent and nothing else
 abbrev pub IsRun : Bool → Contents → List Event → List ℕ → Type 0
 IsRun false agent events text = text ≡ run_text agent events
 IsRun true agent events text = IsNotedRun agent events text
@@ -90,12 +90,12 @@ WritesEvent notes agent e held held_after =
 abbrev pub WritesRun : Bool → Contents → List Event → Option (List ℕ) → Option (List ℕ) → Type 0
 WritesRun notes agent events held held_after = (text : List ℕ) × IsRun notes agent events text × Appends held held_after text
 
--- the same, and behind it the lines of what stands at the end
+-- the same, followed by the lines of the state at the end
 abbrev pub WritesDay : Bool → Contents → List Event → Option (List ℕ) → Option (List ℕ) → Type 0
 WritesDay notes agent events held held_after =
     (text : List ℕ) × IsRun notes agent events text × Appends held held_after (text ++ state_text (after_all agent events))
 
--- the text of all events was written behind what the writer held, and behind it the lines of what stands at the end
+-- the text of all events was appended to what the writer held, followed by the lines of the state at the end
 abbrev pub Replays : Bool → Option (Option (List ℕ)) → Option (List ℕ) → Option (List ℕ) → Option (List ℕ) → Type 0
 Replays notes config script held held_after = (day : Day config script) × WritesDay notes day.agent day.events held held_after
 
@@ -104,7 +104,7 @@ abbrev pub WritesFirst : Bool → Contents → List Event → Option (List ℕ) 
 WritesFirst notes agent events held held_after =
     (done : List Event) × (rest : List Event) × (events ≡ done ++ rest) × WritesRun notes agent done held held_after
 
--- what an event leaves that could not be taken or whose text could not be written
+-- what is left by an event that could not be taken or whose text could not be written
 abbrev pub EventLeaves : Fault → Option (List ℕ) → Option (List ℕ) → Type 0
 EventLeaves Input held held_after = ⊥
 EventLeaves (Script at) held held_after = ⊥
@@ -113,7 +113,7 @@ EventLeaves Output held held_after = Unit {0}
 EventLeaves Socket held held_after = ⊥
 EventLeaves OutOfMemory held held_after = Keeps held held_after
 
--- what events leave of which one was not taken, or its text not written
+-- what is left by events of which one was not taken, or its text not written
 abbrev pub RunLeaves : Bool → Contents → List Event → Fault → Option (List ℕ) → Option (List ℕ) → Type 0
 RunLeaves notes agent events Input held held_after = ⊥
 RunLeaves notes agent events (Script at) held held_after = ⊥
@@ -122,8 +122,8 @@ RunLeaves notes agent events Output held held_after = Unit {0}
 RunLeaves notes agent events Socket held held_after = ⊥
 RunLeaves notes agent events OutOfMemory held held_after = WritesFirst notes agent events held held_after
 
--- what a fault leaves of the output, and when it comes: one of the configuration only where a file was handed over for
--- it, and one of the script only where there is an office
+-- what a fault leaves of the output, and when it comes: one of the configuration only if a file was given for it, and
+-- one of the script only if there is an office
 abbrev pub ReplayLeaves : Bool → Option (Option (List ℕ)) → Option (List ℕ) → Fault → Option (List ℕ) → Option (List ℕ) → Type 0
 ReplayLeaves notes config script Input held held_after = (office : Config) × IsOffice config office × Keeps held held_after
 ReplayLeaves notes config script (Script at) held held_after = (office : Config) × IsOffice config office × IsMalformed script at × Keeps held held_after

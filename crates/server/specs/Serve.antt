@@ -10,7 +10,7 @@ use Rattle.server.specs.Replay.{IsOffice}
 abbrev pub Request : Type 0
 Request = Option (Config × Option ℕ)
 
--- the host was asked to serve the office that the file says, for so many turns
+-- the host was asked to serve the office that the file says, for this many turns
 abbrev pub Serves : Option (List ℕ) → Option ℕ → Request → Type 0
 Serves file turns asked = (office : Config) × IsOffice (Some file) office × (asked ≡ Some (office, turns))
 

@@ -1,4 +1,4 @@
--- What is written at the end of a day: the calls that stand, and the rows of the relay table.
+-- What is written at the end of a day: the live calls, and the rows of the relay table.
 use Rattle.std.specs.Prelude.{ℕ, List, [], ◌++◌, codes, Option, Some, None}
 use Prim.Native.Nat.{zero, suc}
 use Rattle.std.specs.FinMap.{get}
@@ -48,7 +48,7 @@ hops_below rows (suc n) = hops_below rows n ++ hop_line rows n
 abbrev pub hops_text : Rows → List ℕ
 hops_text rows = hops_below rows 65536
 
--- `call NUMBER PHASE` for each call, in the order in which they began, and behind them `hop PORT IP PORT FROM` for each
+-- `call NUMBER PHASE` for each call, in the order in which they began, followed by `hop PORT IP PORT FROM` for each
 -- row
 abbrev pub state_text : Contents → List ℕ
 state_text s = calls_text s.calls.calls ++ hops_text s.calls.pool.rows

@@ -1,5 +1,5 @@
--- What `follow` does with a script that comes bit by bit: what `replay` does with a script of the same bytes, and where
--- that is malformed, what stood before.
+-- What `follow` does with a script that comes bit by bit: what `replay` does with a script of the same bytes, and if
+-- that is malformed, what came before the fault.
 use Rattle.std.specs.Prelude.{◌≡◌, ◌≢◌, ℕ, Bool, List, [], ◌++◌, length, ◌⊎◌, Option, Some, None}
 use Rattle.std.specs.Io.KnownBytes.{Consumes, IsAtEnd, Keeps}
 use Rattle.configuration.specs.declared.config.Config.{Config}
@@ -15,7 +15,7 @@ use Rattle.server.specs.declared.fault.Fault.TheVariants.{Input, Script, Config 
 
 -- ---- what is read
 
--- a fault of the event that begins a text, so many bytes from the head
+-- a fault of the event that begins a text, `at` bytes from the head
 abbrev pub IsOfEvent : List ℕ → ℕ → Fault → Type 0
 IsOfEvent text at Input = ⊥
 IsOfEvent text at (Script place) = (place ≡ at) × (text ≢ []) × NeverBegins text
@@ -24,7 +24,7 @@ IsOfEvent text at Output = ⊥
 IsOfEvent text at Socket = ⊥
 IsOfEvent text at OutOfMemory = Unit {0}
 
--- bytes at the end that are no event, so many from the head
+-- bytes at the end that are no event, `at` bytes from the head
 abbrev pub IsLeftOver : List ℕ → ℕ → Fault → Type 0
 IsLeftOver text at Input = ⊥
 IsLeftOver text at (Script place) = (place ≡ at) × (text ≢ [])
@@ -33,12 +33,12 @@ IsLeftOver text at Output = ⊥
 IsLeftOver text at Socket = ⊥
 IsLeftOver text at OutOfMemory = ⊥
 
--- so many bytes were taken and put behind what was kept: none only at the end
+-- `count` bytes were taken and appended to what was kept: none only at the end
 abbrev pub Grows : List ℕ → List ℕ → Option (List ℕ) → Option (List ℕ) → ℕ → Type 0
 Grows kept kept_after left left_after count =
     (bytes : List ℕ) × Consumes left left_after bytes × (kept_after ≡ kept ++ bytes) × (length bytes ≡ count) × (count ≡ 0 → IsAtEnd left_after)
 
--- events at the head of an input, one behind the other, and what stands behind them
+-- events at the head of an input, one after the other, and what comes after them
 pub record Front (input : Option (List ℕ)) : Type 0 where
   pub text : List ℕ
   pub events : List Event
@@ -53,7 +53,7 @@ abbrev pub FollowsRun : Bool → Contents → Contents → Option (List ℕ) →
 FollowsRun notes agent agent_after left left_after held held_after =
     (text : List ℕ) × (events : List Event) × ReadsAll left left_after text × ReadsScript text events × (agent_after ≡ after_all agent events) × WritesRun notes agent events held held_after
 
--- the same, and behind it the lines of what stands at the end
+-- the same, followed by the lines of the state at the end
 abbrev pub FollowsDay : Bool → Contents → Option (List ℕ) → Option (List ℕ) → Option (List ℕ) → Option (List ℕ) → Type 0
 FollowsDay notes agent left left_after held held_after =
     (text : List ℕ) × (events : List Event) × ReadsAll left left_after text × ReadsScript text events × WritesDay notes agent events held held_after
@@ -89,8 +89,8 @@ pub record Start (config : Option (Option (List ℕ))) : Type 0 where
   pub configured : IsOffice config office
   pub new : IsNew office agent
 
--- what a fault leaves of the output, and when it comes: one of the configuration only where a file was handed over for
--- it, and before anything is written
+-- what a fault leaves of the output, and when it comes: one of the configuration only if a file was given for it, and
+-- before anything is written
 abbrev pub FollowLeaves : Bool → Option (Option (List ℕ)) → Option (List ℕ) → Fault → Option (List ℕ) → Option (List ℕ) → Type 0
 FollowLeaves notes config input Input held held_after = (start : Start config) × WritesFront notes start.agent input held held_after
 FollowLeaves notes config input (Script at) held held_after = (start : Start config) × WritesUpTo notes start.agent input at held held_after

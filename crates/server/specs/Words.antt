@@ -63,7 +63,7 @@ entered_by words = subcommand_of office_app words
 abbrev pub name_in : Option (List ℕ × List Row) → Option (List ℕ)
 name_in entered = option_map (λ p. p.0) entered
 
--- what stands for an argument
+-- the value of an argument
 abbrev pub value_in : List ℕ → Option (List ℕ × List Row) → Option (List ℕ)
 value_in id entered = option_and_then (λ p. first_of id p.1) entered
 
@@ -99,7 +99,7 @@ abbrev pub given_turns : Option ℕ → Option (Option ℕ)
 given_turns None = None
 given_turns (Some n) = Some (Some n)
 
--- so many turns, or no end, where no number is given; none where it is no number of turns
+-- this many turns, or no end, if no number is given; none if it is no number of turns
 abbrev pub turns_in : Option (List ℕ) → Option (Option ℕ)
 turns_in None = Some None
 turns_in (Some text) = given_turns (turns_of text)
@@ -115,7 +115,7 @@ IsServe config_text turns_text (Serve config turns) = (Some config.now ≡ confi
 abbrev pub LacksServe : Option (List ℕ) → Option (List ℕ) → Type 0
 LacksServe config_text turns_text = (config_text ≡ None) ⊎ (turns_in turns_text ≡ None)
 
--- what a subcommand and its arguments ask
+-- what a subcommand and its arguments ask for
 abbrev pub AsksIn : Option (List ℕ × List Row) → Asked → Type 0
 AsksIn entered Once = name_in entered ≡ Some (codes "once")
 AsksIn entered (Replay config script notes) =
@@ -125,11 +125,11 @@ AsksIn entered (Follow config notes) =
 AsksIn entered (Serve config turns) =
     (name_in entered ≡ Some (codes "serve")) × IsServe (value_in (codes "config") entered) (value_in (codes "turns") entered) (Serve config turns)
 
--- what the words ask
+-- what the words ask for
 abbrev pub Asks : List (List ℕ) → Asked → Type 0
 Asks words asked = AsksIn (entered_by words) asked
 
--- words are refused only where the parser doesn't take them, or what it makes of them asks nothing
+-- words are refused only where the parser doesn't take them, or what it makes of them asks for nothing
 abbrev pub RefusesWords : List (List ℕ) → CommandError → Type 0
 RefusesWords words Words = (is_taken words ≡ true → ⊥) ⊎ ((asked : Asked) → Asks words asked → ⊥)
 RefusesWords words (Help text) = is_taken words ≡ true → ⊥

@@ -11,7 +11,7 @@ use configuration::{Config, ConfigError};
 use index::PrintKey;
 use std::alloc::Global;
 
-/// What a refusal of a configuration is to the program.
+/// What a refused configuration means as a fault of the program.
 pub(crate) fn config_fault(error: ConfigError) -> Fault
     ensures { result ≡ config_fault error }
 {
@@ -21,7 +21,7 @@ pub(crate) fn config_fault(error: ConfigError) -> Fault
     }
 }
 
-/// The agent of an office to which nothing has happened.
+/// An agent for this office, before anything has happened to it.
 pub(crate) fn agent_of(alloc: Global, config: &Config) -> Result<Agent, Fault>
     requires { first_broken config.now ≡ None }
     ensures made { IfOk result (IsNew config.now) }

@@ -36,7 +36,7 @@ fn to(entry: &Entry) -> Field<'_> {
     }
 }
 
-/// Who did it.
+/// Which end did it.
 fn by(entry: &Entry, end: End) -> Field<'_> {
     Field {
         key: b"by",
@@ -66,7 +66,7 @@ fn after(entry: &Entry, now: u64) -> Field<'static> {
     }
 }
 
-/// How long the call stood.
+/// How long the call lasted.
 fn stood(entry: &Entry, now: u64) -> Field<'static> {
     Field {
         key: b"stood",
@@ -92,7 +92,7 @@ fn media_fields(media: Option<MediaCounts>) -> (Field<'static>, Field<'static>) 
     )
 }
 
-/// The line of an end of a call, whose last two fields are the counts of its media, if anyone counts them.
+/// Writes the line for the end of a call. Its last two fields are the counts of its media, if anyone counts them.
 fn put_ended(
     out: &mut Vec<u8>,
     media: Option<MediaCounts>,
@@ -123,7 +123,7 @@ fn holds(session: &Session) -> bool
     is_held(session.offer_taken.get(), session.answer_taken.get())
 }
 
-/// The word of an answer inside a call, by whether the call is held from now on, and whether it was.
+/// The word for an answer inside a call, given whether the call is held from now on and whether it was before.
 fn word_of_change(is_held: bool, was_held: bool) -> &'static [u8]
     ensures { result.now ≡ word_of_change is_held was_held }
 {
@@ -281,7 +281,7 @@ fn keep_hold(ledger: &mut Ledger, calls: &[StandingCall], number: u64) {
     }
 }
 
-/// What the ledger knows of a call from now on.
+/// Updates what the ledger knows of a call.
 fn keep_note(ledger: &mut Ledger, calls: &[StandingCall], note: NoteOfCall, now: u64) {
     let NoteOfCall { number, note } = note;
     match note {
@@ -300,7 +300,7 @@ fn keep_note(ledger: &mut Ledger, calls: &[StandingCall], note: NoteOfCall, now:
     }
 }
 
-/// The ledger has a call from its beginning on.
+/// Puts a call into the ledger from its beginning on.
 fn begin_note(
     ledger: &mut Ledger,
     alloc: Global,
@@ -331,7 +331,7 @@ fn put_known(
     }
 }
 
-/// Writes the line of what happened to a call behind what is there.
+/// Appends the line that says what happened to a call.
 pub(crate) fn put_call_note(
     out: &mut Vec<u8>,
     alloc: Global,

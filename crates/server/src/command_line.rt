@@ -74,9 +74,9 @@ fn serve_file<F: Shelf, H: Host>(
     serve(alloc, shelf.open(config), host, turns)
 }
 
-/// Does what the words of the command line ask, of which the first is the program's own: `once` answers the datagram
-/// that the reader has on the writer, `replay` runs the script of a file, `follow` that of the reader, and `serve` has
-/// the host serve the configuration of a file.
+/// Does what the words of the command line ask for; the first word is the program's own name. `once` answers the
+/// datagram that the reader has on the writer, and `replay` runs the script of a file. `follow` runs the script of
+/// the reader, and `serve` has the host serve the configuration of a file.
 pub fn run<F: Shelf, H: Host, R: Read, W: Write>(
     alloc: Global,
     words: &[&str],

@@ -1,4 +1,5 @@
-//! `replay`: the events of a script, which an office takes one after the other, to which nothing has happened before.
+//! `replay`: the events of a script, which an office takes one after the other, starting with nothing having
+//! happened.
 
 ghost use Rattle.std.specs.Prelude.{◌≡◌, None, Some, IfErr, IfOk, OnOk, option_map};
 ghost use Rattle.std.specs.Io.KnownBytes.{Appends};
@@ -24,7 +25,7 @@ use sip_uri::Addr;
 use std::alloc::{AllocError, Global};
 use std::io::{Read, Write};
 
-/// What a fault of reading is where a configuration was read.
+/// What a reading fault becomes when the file was a configuration.
 fn unread_config(fault: Fault) -> Fault
     ensures { result ≡ unread_config fault }
 {
@@ -44,7 +45,7 @@ fn refusal(alloc: Global, text: &[u8]) -> Fault
     }
 }
 
-/// The configuration that a file says.
+/// The configuration that a file describes.
 pub(crate) fn config_of<C: Read + Drop>(alloc: Global, mut file: C) -> Result<Config, Fault>
     ensures read { IfOk result (λ config. IsOffice (Some (C.remaining file)) config) }
     ensures kept { IfOk result (λ config. first_broken config ≡ None) }
@@ -107,7 +108,7 @@ fn text_of(alloc: Global, sent: &[Sent]) -> Result<Vec<u8>, AllocError>
     Ok(text)
 }
 
-/// Where an event came from; nowhere of a timer, of silence or of users.
+/// Where an event came from; none for a timer, silence or users.
 fn source_of(event: &Event) -> Option<Addr> {
     match &event.what {
         What::Datagram { source, .. } => Some(*source),
@@ -115,7 +116,7 @@ fn source_of(event: &Event) -> Option<Addr> {
     }
 }
 
-/// Writes what the last event was about behind what is there, where that is asked for.
+/// Appends what the last event was about, if notes are asked for.
 #[tactic(auto, using(crate::proofs::ReplayLaws::not_told, crate::proofs::ReplayLaws::told))]
 fn put_told(
     out: &mut Vec<u8>,
@@ -133,7 +134,7 @@ fn put_told(
     put_note(out, alloc, ledger, agent, source_of(event), None)
 }
 
-/// Takes an event, and writes the text of what is sent, and what it was about, where that is asked for.
+/// Takes an event, and writes the text of what is sent. If notes are asked for, writes what it was about as well.
 pub(crate) fn play_event<W: Write>(
     alloc: Global,
     agent: &mut Agent,
@@ -172,7 +173,7 @@ fn play<W: Write>(
     Ok(())
 }
 
-/// Writes the calls that stand, and the rows of the relay table.
+/// Writes the live calls and the rows of the relay table.
 pub(crate) fn write_state<W: Write>(
     alloc: Global,
     agent: &Agent,
@@ -186,7 +187,7 @@ pub(crate) fn write_state<W: Write>(
     write_out(writer, text.as_slice())
 }
 
-/// Takes the events in order, writes the text of each, and behind all what stands then.
+/// Takes the events in order, writes the text of each, and then the state at the end.
 fn play_day<W: Write>(
     alloc: Global,
     agent: &mut Agent,
@@ -202,9 +203,9 @@ fn play_day<W: Write>(
 }
 
 /// Reads a configuration, if there is a file of one, then a whole script, and writes the text of all that the office
-/// sends at its events, one event after the other, and behind it the calls that stand and the rows of the relay table.
-/// Behind the text of each event stands what it was about, where notes are asked for. An event that memory is refused
-/// for ends the run behind what was sent before it.
+/// sends, one event after the other. After that come the live calls and the rows of the relay table. If notes are
+/// asked for, the text of each event is followed by what it was about. If memory runs out for an event, the run ends
+/// after what was sent before it.
 pub fn replay<C: Read + Drop, S: Read + Drop, W: Write>(
     alloc: Global,
     config: Option<C>,

@@ -4,14 +4,14 @@ use crate::fault::Fault;
 use crate::reason::Reason;
 use crate::words::CommandError;
 
-/// How a run ended: what the shell and the user are told.
+/// How a run ended: what the shell and the user see.
 #[derive(Drop)]
 pub enum Ending {
-    /// All went well, also where nothing was written.
+    /// All went well, even if nothing was written.
     Done,
     /// The command line was refused. No stream was touched.
     Refused(CommandError),
-    /// What was asked could not be done to its end.
+    /// What was asked for could not be completed.
     Broken(Fault),
 }
 
@@ -30,7 +30,7 @@ impl Ending {
         }
     }
 
-    /// The words for standard error, without a line end; none where all went well.
+    /// The words for standard error, without a line end; none if all went well.
     pub fn words(&self) -> Option<&'static str>
         ensures { option_map (λ w. w.now) result ≡ ending_words_of self.now }
     {
@@ -41,7 +41,7 @@ impl Ending {
         }
     }
 
-    /// Why, for a second line, where more is known.
+    /// The reason, for a second line, if more is known.
     pub fn reason(&self) -> Option<Reason<'_>>
         ensures { option_map (λ reason. reason.fault.now) result ≡ ending_reason_of self.now }
     {

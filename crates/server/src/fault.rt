@@ -9,18 +9,19 @@ use thiserror::Error;
 /// Why `once`, `replay`, `follow` or `serve` gave up.
 #[derive(Debug, Drop, Error)]
 pub enum Fault {
-    /// The input or the script failed, or never ended. Nothing was written but what `follow` did at the events before.
+    /// The input or the script failed, or never ended. Nothing was written except what `follow` did at earlier
+    /// events.
     Input,
-    /// At this place of the script, in bytes, no event begins. Nothing was written but what `follow` did at the events
-    /// before.
+    /// No event begins at this place of the script, in bytes. Nothing was written except what `follow` did at earlier
+    /// events.
     Script(usize),
     /// The file of the configuration failed or never ended, or has this fault. Nothing was written.
     Config(Option<ConfigFault>),
-    /// The output failed. How much was written is open.
+    /// The output failed. How much was written is unknown.
     Output,
     /// A socket could not be opened, or failed too often in a row.
     Socket,
-    /// Memory ran out. Nothing was written but what a script's events before sent.
+    /// Memory ran out. Nothing was written except what the script's earlier events sent.
     OutOfMemory,
 }
 
@@ -52,7 +53,7 @@ impl Fault {
         }
     }
 
-    /// What stands behind these words on a line of its own, where more is known.
+    /// The reason, which follows these words on a line of its own if more is known.
     pub fn reason(&self) -> Option<Reason<'_>>
         ensures { option_map (λ reason. reason.fault.now) result ≡ reason_of self.now }
     {

@@ -20,7 +20,7 @@ pub trait Host {
     /// The configuration that it was asked to serve last, and for how many turns.
     ghost asked: { Self → Option (office.Config × Option ℕ) };
 
-    /// Serves until so many turns of the signalling are made, or without an end. Nothing is served where a socket can't
+    /// Serves until this many turns of the signalling are made, or without end. Nothing is served if a socket can't
     /// be opened.
     fn serve(&mut self, config: &Config, turns: Option<u64>) -> Result<(), HostFault>
         ensures asked { asked self.new ≡ Some (config.now, turns) };

@@ -9,13 +9,13 @@ use crate::fault::Fault;
 use std::alloc::{AllocError, Global};
 use std::io::Read;
 
-/// So many reads are made before an input counts as endless.
+/// How many reads are made before an input counts as endless.
 const MAX_READS: u32 = 1_048_576;
 
 /// Bytes that are kept: one more than a datagram may have.
 const MAX_KEPT: usize = 16_385;
 
-/// Puts behind the kept bytes what there is room for.
+/// Appends as many of the bytes to the kept ones as there is room for.
 fn keep(whole: &mut Vec<u8>, bytes: &[u8]) -> Result<(), AllocError>
     requires { vec_len whole.old ≤ max_kept }
     ensures ok { OnOk result (whole.new.items ≡ take max_kept (whole.old.items ++ bytes.now)) }
@@ -42,7 +42,7 @@ pub(crate) fn read_some<R: Read>(reader: &mut R, chunk: &mut [u8]) -> Result<usi
     }
 }
 
-/// Reads to the end, and keeps the first bytes of it. An input that has not ended after so many reads is a fault.
+/// Reads to the end, and keeps the first bytes. An input that has not ended after `MAX_READS` reads is a fault.
 pub fn read_datagram<R: Read>(alloc: Global, reader: &mut R) -> Result<Vec<u8>, Fault>
     ensures read { IfOk result (λ v. Reads (R.remaining reader.old) (R.remaining reader.new) v.items) }
     ensures fault { IfErr result IsOfReading }
@@ -59,7 +59,7 @@ pub fn read_datagram<R: Read>(alloc: Global, reader: &mut R) -> Result<Vec<u8>, 
     Err(Fault::Input)
 }
 
-/// Reads to the end, and keeps all of it. An input that has not ended after so many reads is a fault.
+/// Reads to the end, and keeps all of it. An input that has not ended after `MAX_READS` reads is a fault.
 pub(crate) fn read_whole<R: Read>(alloc: Global, reader: &mut R) -> Result<Vec<u8>, Fault>
     ensures read { IfOk result (λ v. ReadsAll (R.remaining reader.old) (R.remaining reader.new) v.items) }
     ensures fault { IfErr result IsOfReading }

@@ -1,4 +1,4 @@
-//! Which calls stand, as lines name them.
+//! The live calls, as lines name them.
 
 ghost use Rattle.std.specs.Prelude.{◌≡◌, [], IfOk, IfSome};
 
@@ -7,10 +7,10 @@ use calls::StandingCall;
 use std::alloc::{AllocError, Global};
 use text::Text;
 
-/// So many calls are remembered: no more stand at a time.
+/// How many calls are remembered: at most this many are live at a time.
 const MAX_CALLS: usize = 256;
 
-/// A call that stands: who called whom, and when it began and was answered, in milliseconds.
+/// A live call: who called whom, and when it began and was answered, in milliseconds.
 #[derive(Drop)]
 pub(crate) struct Entry {
     pub number: u64,
@@ -30,19 +30,19 @@ impl Entry {
         }
     }
 
-    /// How long it has stood: since it was answered, where it was.
+    /// How long it has lasted: since it was answered, if it was, or else since it began.
     pub(crate) fn stood(&self, now: u64) -> u64 {
         now.saturating_sub(self.answered.unwrap_or(self.begun))
     }
 }
 
-/// The calls that stand, in the order in which they began.
+/// The live calls, in the order in which they began.
 #[derive(Drop)]
 pub struct Ledger {
     entries: Vec<Entry>,
 }
 
-/// The user of a URI; empty where it has none.
+/// The user of a URI; empty if it has none.
 fn user_text(alloc: Global, user: Option<&Text<'static>>) -> Result<Text<'static>, AllocError> {
     match user {
         Some(user) => user.keep(alloc),
@@ -78,7 +78,7 @@ pub(crate) fn call_of(calls: &[StandingCall], number: u64) -> Option<&StandingCa
 }
 
 impl Ledger {
-    /// No call stands. Takes no memory.
+    /// A ledger without calls. Takes no memory.
     pub fn new(alloc: Global) -> Ledger
         ensures { result.entries.items ≡ [] }
     {
@@ -97,7 +97,7 @@ impl Ledger {
         None
     }
 
-    /// A call begins. Of too many the earliest is forgotten.
+    /// A call begins. If there are too many, the earliest is forgotten.
     pub(crate) fn begin(
         &mut self,
         alloc: Global,
@@ -127,7 +127,7 @@ impl Ledger {
         }
     }
 
-    /// A call is held, or no longer.
+    /// A call is put on hold, or taken off hold.
     pub(crate) fn hold(&mut self, number: u64, is_held: bool) {
         for at in 0..self.entries.len() {
             if self.entries[at].number == number {

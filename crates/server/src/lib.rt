@@ -1,6 +1,6 @@
-//! The call server between the bytes of its files and streams: what a command line asks, what is sent for a datagram,
-//! and what is sent at the events of a script, whole or bit by bit, with what stands at their end; and which
-//! configuration is served on sockets, which are handed in.
+//! The call server between the bytes of its files and streams: what a command line asks for, what is sent for a
+//! datagram, and what is sent at the events of a script. A script is read whole or bit by bit, and the state at its
+//! end is written. `serve` picks the configuration that is served on sockets, which are passed in.
 #![tactic(auto)]
 
 mod agents;

@@ -1,5 +1,5 @@
-//! Lines for whoever watches the server: a word, and behind it keys with their values. Whatever a value says, it ends
-//! no line and begins no other key.
+//! Lines for those who watch the server: a word, followed by keys with their values. Whatever a value contains, it
+//! neither ends the line nor begins another key.
 
 ghost use Rattle.std.specs.Prelude.{◌≡◌, ◌++◌, ◌≤◌, length, decimal, OnOk};
 ghost use Rattle.std.specs.List.{flat_map};
@@ -9,12 +9,12 @@ ghost use Rattle.server.specs.Notes.{Says};
 use itoa::Buffer;
 use std::alloc::AllocError;
 
-/// So many bytes of a word, a key or a number are shown, and so many of another text.
+/// How many bytes are shown of a word, a key or a number, and below it, of any other text.
 const MAX_WORD: usize = 20;
 
 const MAX_SHOWN: usize = 100;
 
-/// What stands behind a key.
+/// The value of a key.
 #[derive(Clone, Copy)]
 pub(crate) enum Value<'a> {
     Number(u64),
@@ -32,7 +32,7 @@ pub(crate) struct Field<'a> {
     pub value: Value<'a>,
 }
 
-/// A byte that is shown as it is: it is no space, ends no value, and asks for no quotes.
+/// A byte that is shown as it is: it is no space, ends no value, and needs no quotes.
 fn is_plain(byte: u8) -> bool
     ensures { result ≡ is_plain byte }
 {
@@ -71,7 +71,7 @@ fn put_bytes(out: &mut Vec<u8>, bytes: &[u8]) -> Result<(), AllocError>
     Ok(())
 }
 
-/// So many bytes of a text at most, and a mark where there are more.
+/// At most `most` bytes of a text, and a mark if there are more.
 fn put_shown(out: &mut Vec<u8>, most: usize, text: &[u8]) -> Result<(), AllocError>
     ensures ok { OnOk result (out.new.items ≡ out.old.items ++ shown most text.now) }
 {
@@ -116,7 +116,7 @@ fn put_dashed(out: &mut Vec<u8>, words: &[u8]) -> Result<(), AllocError>
     Ok(())
 }
 
-/// Words with a `-` between them: so many bytes at most.
+/// Words with a `-` between them: at most `most` bytes.
 fn put_words(out: &mut Vec<u8>, most: usize, words: &[u8]) -> Result<(), AllocError>
     ensures ok { OnOk result (out.new.items ≡ out.old.items ++ words_text most words.now) }
 {
@@ -166,7 +166,7 @@ fn put_whole(out: &mut Vec<u8>, word: &[u8], fields: &[Field<'_>]) -> Result<(),
     Ok(())
 }
 
-/// Writes a line behind what is there. Where memory runs out, a part may be written there.
+/// Appends a line. If memory runs out, a part of it may be written.
 pub(crate) fn put_line(
     out: &mut Vec<u8>,
     word: &[u8],
@@ -174,7 +174,7 @@ pub(crate) fn put_line(
 ) -> Result<(), AllocError>
     requires { length fields.now ≤ max_fields }
     ensures ok { OnOk result (out.new.items ≡ out.old.items ++ line_text word.now fields.now) }
-    // It is one line, of signs that no terminal and no reader of lines takes for another thing, and not long.
+    // It is one line, of bytes that no terminal and no reader of lines takes for anything else, and not long.
     ensures tells { OnOk result (Tells out.old.items out.new.items) }
     // It begins with the word.
     ensures says { OnOk result (Says (λ w. w ≡ word.now) out.old.items out.new.items) }
@@ -182,7 +182,7 @@ pub(crate) fn put_line(
     put_whole(out, word, fields)
 }
 
-/// Writes a line without so many of the last fields.
+/// Writes a line without the last `left_out` fields.
 pub(crate) fn put_line_without(
     out: &mut Vec<u8>,
     word: &[u8],

@@ -23,7 +23,7 @@ fn place_text(alloc: Global, place: Addr) -> Result<String, AllocError> {
     format!(in alloc; "{a}.{b}.{c}.{d}:{}", place.port)
 }
 
-/// A text, and behind it a place, if there is one: fields that borrow one text have one lifetime.
+/// A text, followed by a place, if there is one: fields that borrow one text have one lifetime.
 fn with_place(alloc: Global, front: &[u8], place: Option<Addr>) -> Result<Vec<u8>, AllocError> {
     let mut text = Vec::from_slice(alloc, front)?;
     if let Some(place) = place {
@@ -38,7 +38,7 @@ fn parted(text: &[u8], at: usize) -> (&[u8], &[u8]) {
     (&text[..at], &text[at..])
 }
 
-/// Of a text that says why, and behind this place from where.
+/// Appends a line from a text that says why up to `at`, and from where after it.
 fn put_refused(
     out: &mut Vec<u8>,
     text: &[u8],
@@ -92,7 +92,7 @@ fn why_word(why: Why) -> &'static [u8] {
     }
 }
 
-/// Of a text that says why, and behind this place from where.
+/// Appends a line from a text that says why up to `at`, and from where after it.
 fn put_dropped(out: &mut Vec<u8>, text: &[u8], at: usize, left_out: usize) -> Result<(), AllocError>
     ensures { OnOk result (Says (λ w. w ≡ codes "dropped") out.old.items out.new.items) }
 {
@@ -134,7 +134,7 @@ fn put_shed(out: &mut Vec<u8>, alloc: Global, source: Option<Addr>) -> Result<()
     put_line_without(out, b"shed", &fields, usize::from(source.is_none()))
 }
 
-/// The seconds that the longest of the bindings lasts.
+/// The seconds that the longest-lasting binding has left.
 fn seconds_left(bindings: &[Binding], now: u64) -> u64 {
     let mut most = 0;
     for binding in bindings {
@@ -145,7 +145,7 @@ fn seconds_left(bindings: &[Binding], now: u64) -> u64 {
     most
 }
 
-/// Of a text that says who is bound, and behind this place where.
+/// Appends a line from a text that says who is bound up to `at`, and where after it.
 fn put_registered(out: &mut Vec<u8>, text: &[u8], at: usize, seconds: u64) -> Result<(), AllocError>
     ensures { OnOk result (Says (λ w. w ≡ codes "registered") out.old.items out.new.items) }
 {
@@ -207,9 +207,9 @@ fn put_registration(
     put_binding(out, alloc, user, uri, seconds_left(&bindings, now))
 }
 
-/// Appends the line of what the last event was about, if it has one. The event came from this source, where it was a
-/// datagram. Where it ended a call, and anyone counts its media, these are the counts. Times are those of the agent's
-/// moment, at which it took the event.
+/// Appends the line of what the last event was about, if it has one. `source` is where the event came from, if it was
+/// a datagram. `media` are the counts of the media of a call that it ended, if anyone counts them. Times are those of
+/// the agent's moment, at which it took the event.
 #[tactic(auto, using(crate::proofs::LineLaws::says_nothing, crate::proofs::LineLaws::says_tells))]
 pub fn put_note(
     out: &mut Vec<u8>,
@@ -236,7 +236,7 @@ pub fn put_note(
     }
 }
 
-/// Of a text that says from whom, and behind this place from where.
+/// Appends a line from a text that says from whom up to `at`, and from where after it.
 fn put_silent(out: &mut Vec<u8>, number: u64, text: &[u8], at: usize) -> Result<(), AllocError>
     ensures { OnOk result (Says (λ w. w ≡ codes "call-silent-way") out.old.items out.new.items) }
 {
@@ -258,7 +258,7 @@ fn put_silent(out: &mut Vec<u8>, number: u64, text: &[u8], at: usize) -> Result<
     put_line(out, b"call-silent-way", &fields)
 }
 
-/// The line of an end of a call, of which nothing is heard, and which was to send from there.
+/// Appends the line for an end of a call that should be sending from there but isn't heard.
 fn put_silence(
     out: &mut Vec<u8>,
     alloc: Global,
@@ -273,8 +273,8 @@ fn put_silence(
     put_silent(out, entry.number, &text, user.len())
 }
 
-/// Writes a line behind what is there of a call in which no media come from this end, whose description names this
-/// place. Nothing for a call that isn't known.
+/// Appends a line for a call in which no media come from this end, whose description names this place. Appends
+/// nothing for a call that isn't known.
 #[tactic(auto, using(crate::proofs::LineLaws::says_nothing, crate::proofs::LineLaws::says_tells))]
 pub fn put_silent_way(
     out: &mut Vec<u8>,
@@ -293,7 +293,7 @@ pub fn put_silent_way(
     }
 }
 
-/// Writes a line of how many behind what is there.
+/// Appends a line with a count.
 pub fn put_count(out: &mut Vec<u8>, word: &[u8], count: u64) -> Result<(), AllocError>
     ensures tells { OnOk result (Tells out.old.items out.new.items) }
     ensures says { OnOk result (Says (λ w. w ≡ word.now) out.old.items out.new.items) }

@@ -1,4 +1,4 @@
-//! Writing of bytes.
+//! Writing bytes.
 
 ghost use Rattle.std.specs.Prelude.{◌≡◌, IfErr, OnOk};
 ghost use Rattle.std.specs.Io.KnownBytes.{Appends};

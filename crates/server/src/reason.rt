@@ -1,4 +1,4 @@
-//! Why a run could not be done, in words.
+//! Why a run could not be completed, in words.
 
 use crate::fault::Fault;
 use std::fmt;

@@ -1,4 +1,4 @@
-//! Files by their paths.
+//! Files by path.
 
 ghost use Rattle.std.specs.Prelude.{◌≡◌, ℕ, List, Option};
 
@@ -12,7 +12,7 @@ pub trait Shelf {
     /// The bytes of the file of a path, where they are known.
     ghost contents: { Self → List ℕ → Option (List ℕ) };
 
-    /// Opens the file of a path. Of one that can't be opened, each read fails.
+    /// Opens the file of a path. If it can't be opened, each read of it fails.
     fn open(&self, path: &str) -> Self::File
         ensures { Self.File.remaining result ≡ contents self.now path.now };
 }

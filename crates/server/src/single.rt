@@ -20,13 +20,13 @@ use std::alloc::{AllocError, Global};
 use std::io::{Read, Write};
 use text::Text;
 
-/// Where the datagram counts as sent from.
+/// The address that the datagram counts as sent from.
 const SOURCE: Addr = Addr {
     ip: [192, 0, 2, 11],
     port: 6000,
 };
 
-/// The example office, to which nothing has happened.
+/// The agent of the example office, before anything has happened to it.
 fn example_agent(alloc: Global) -> Result<Agent, Fault>
     ensures made { IfOk result (IsNew example) }
     ensures refused { IfErr result (λ e. e ≡ Fault.OutOfMemory) }
@@ -71,7 +71,7 @@ fn sent_for(alloc: Global, datagram: Vec<u8>) -> Result<Vec<Sent>, Fault>
     Ok(sent?)
 }
 
-/// The bytes of what is sent, one behind the other.
+/// The bytes of what is sent, one after the other.
 fn bytes_of(alloc: Global, sent: &[Sent]) -> Result<Vec<u8>, AllocError>
     ensures { IfOk result (λ bytes. bytes.items ≡ bytes_of sent.now) }
 {
@@ -82,10 +82,10 @@ fn bytes_of(alloc: Global, sent: &[Sent]) -> Result<Vec<u8>, AllocError>
     Ok(bytes)
 }
 
-/// Reads one datagram to its end, and writes the bytes of all that is sent for it, on the example office.
+/// Reads one datagram to its end, and writes the bytes of all that the example office sends for it.
 pub fn once<R: Read, W: Write>(alloc: Global, reader: &mut R, writer: &mut W) -> Result<(), Fault>
     ensures written { OnOk result (Answers (R.remaining reader.old) (R.remaining reader.new) (W.contents writer.old) (W.contents writer.new)) }
-    // Nothing is written but where the output itself failed.
+    // Nothing is written unless the output itself failed.
     ensures refused { IfErr result (λ e. Leaves e (W.contents writer.old) (W.contents writer.new)) }
 {
     let datagram = read_datagram(alloc, reader)?;

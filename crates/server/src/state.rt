@@ -1,4 +1,4 @@
-//! What is written at the end of a day: the calls that stand, and the rows of the relay table.
+//! What is written at the end of a day: the live calls, and the rows of the relay table.
 
 ghost use Rattle.std.specs.Prelude.{◌≡◌, ◌++◌, OnOk};
 ghost use Rattle.server.specs.State.{call_line, calls_text, hop_line, hops_text, phase_name, phase_word, state_text};
@@ -67,8 +67,8 @@ fn put_hops(out: &mut Vec<u8>, relay: &RelayTable) -> Result<(), AllocError>
     put_hop_line(out, relay, u16::MAX)
 }
 
-/// The lines of the calls that stand, in the order in which they began, and behind them those of the relay table's
-/// rows, by rising port.
+/// The lines of the live calls, in the order in which they began, followed by those of the relay table's rows, by
+/// rising port.
 pub(crate) fn put_state(out: &mut Vec<u8>, agent: &Agent) -> Result<(), AllocError>
     ensures ok { OnOk result (out.new.items ≡ out.old.items ++ state_text agent.now) }
 {

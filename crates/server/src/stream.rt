@@ -17,14 +17,14 @@ use scripts::{ScriptError, first_event};
 use std::alloc::Global;
 use std::io::{Read, Write};
 
-/// What was read behind the last event, and how many bytes stand before it.
+/// What was read after the last event, and how many bytes come before it.
 #[derive(Drop)]
 pub(crate) struct Tail {
     pub bytes: Vec<u8>,
     pub at: usize,
 }
 
-/// Why no event begins so many bytes from the head.
+/// Why no event begins `at` bytes from the head.
 fn event_fault(error: ScriptError, at: usize) -> Fault
     ensures { result ≡ event_fault error at }
 {
@@ -34,8 +34,7 @@ fn event_fault(error: ScriptError, at: usize) -> Fault
     }
 }
 
-/// The event that begins a text so many bytes from the head, and how many bytes it is; none where the text is too
-/// short.
+/// The event that begins a text `at` bytes from the head, and how many bytes it is; none if the text is too short.
 #[tactic(auto, using(crate::proofs::StreamLaws::of_event))]
 fn event_of(alloc: Global, text: &[u8], at: usize) -> Result<Option<(Event, usize)>, Fault>
     ensures found { IfOk result (λ first. IfSome first (λ f. Begins text.now f.0 (drop f.1 text.now))) }
@@ -54,7 +53,7 @@ impl Tail {
     ghost use Rattle.server.specs.Leaves.{IsOfReading};
     ghost use Rattle.server.specs.Stream.{Grows};
 
-    /// Nothing is read. Takes no memory.
+    /// A tail with nothing read. Takes no memory.
     fn new(alloc: Global) -> Tail
         ensures bytes { result.bytes.items ≡ [] }
         ensures at { result.at ≡ 0 }
@@ -65,7 +64,7 @@ impl Tail {
         }
     }
 
-    /// Forgets an event of so many bytes. An input is too long whose places can't be counted.
+    /// Drops an event of `length` bytes. An input is too long if its places can't be counted.
     fn forget(&mut self, length: usize) -> Result<(), Fault>
         requires { length ≤ vec_len self.old.bytes }
         ensures bytes { OnOk result (self.new.bytes.items ≡ drop length self.old.bytes.items) }
@@ -81,7 +80,7 @@ impl Tail {
         Ok(())
     }
 
-    /// Waits for more bytes, and says how many came: none only at the end.
+    /// Waits for more bytes, and returns how many came: zero only at the end.
     fn read_more<R: Read>(&mut self, reader: &mut R) -> Result<usize, Fault>
         ensures grows { IfOk result (Grows self.old.bytes.items self.new.bytes.items (R.remaining reader.old) (R.remaining reader.new)) }
         ensures at { OnOk result (self.new.at ≡ self.old.at) }
@@ -94,7 +93,7 @@ impl Tail {
     }
 }
 
-/// At the end of the input nothing may be left that is no event.
+/// At the end of the input, nothing may be left over that is no event.
 fn end_of(text: &[u8], at: usize) -> Result<(), Fault>
     ensures done { OnOk result (text.now ≡ []) }
     ensures refused { IfErr result (IsLeftOver text.now at) }
@@ -131,7 +130,7 @@ fn play_input<R: Read, W: Write>(
     Err(Fault::Input)
 }
 
-/// Takes the events of the input, writes the text of each, and behind all what stands at the end.
+/// Takes the events of the input, writes the text of each, and then the state at the end.
 fn follow_day<R: Read, W: Write>(
     alloc: Global,
     agent: &mut Agent,
@@ -147,9 +146,9 @@ fn follow_day<R: Read, W: Write>(
 }
 
 /// Reads a configuration, if there is a file of one, and then a script bit by bit. The text of all that the office
-/// sends at an event is written as soon as the event is whole, and at the end of the script the calls that stand and
-/// the rows of the relay table: what `replay` writes. A line that begins no event ends it behind what was sent before.
-/// Of events that were taken nothing is kept but what the office knows.
+/// sends at an event is written as soon as the event is whole. The live calls and the rows of the relay table are
+/// written at the end of the script: in all, what `replay` writes. A line that begins no event ends the run after
+/// what was sent before. Nothing is kept of events already taken except what the office knows.
 pub fn follow<C: Read + Drop, R: Read, W: Write>(
     alloc: Global,
     config: Option<C>,

@@ -14,26 +14,26 @@ use std::alloc::{AllocError, AllocFailed, Global};
 use std::fmt;
 use thiserror::Error;
 
-/// What is asked of the program.
+/// What the program is asked to do.
 #[derive(Clone, Copy)]
 pub enum Asked<'a> {
-    /// Answer one datagram of standard input on standard output.
+    /// Answer one datagram from standard input on standard output.
     Once,
     /// Run a script, on the office of a configuration or on the example office. Both are paths. What each event was
-    /// about may be written, too.
+    /// about can be written as well.
     Replay {
         config: Option<&'a str>,
         script: &'a str,
         notes: bool,
     },
     /// Follow a script on standard input, on the office of a configuration or on the example office. What each event
-    /// was about may be written, too.
+    /// was about can be written as well.
     Follow {
         config: Option<&'a str>,
         notes: bool,
     },
-    /// Serve telephones on the sockets of a configuration, until so many turns are made, or without an end. It is a
-    /// path.
+    /// Serve telephones on the sockets of a configuration, until this many turns are made, or without end. The
+    /// configuration is a path.
     Serve {
         config: &'a str,
         turns: Option<u64>,
@@ -45,7 +45,7 @@ pub enum Asked<'a> {
 pub enum CommandError {
     /// The words ask for nothing that the program does.
     Words,
-    /// They ask for help, which is this.
+    /// They ask for help, which is this text.
     Help(String),
     /// Memory ran out before the words were read.
     OutOfMemory,
@@ -194,7 +194,7 @@ fn is_set(value: Option<&str>) -> bool
     }
 }
 
-/// What the arguments of `replay` ask.
+/// What the arguments of `replay` ask for.
 fn replay_by<'a>(matches: &ArgMatches<'a>) -> Option<Asked<'a>>
     ensures some { IfSome result (λ a. IsReplay (first_value (found_of matches.now) (codes "config")) (first_value (found_of matches.now) (codes "script")) (first_value (found_of matches.now) (codes "notes")) a) }
     ensures none { IfNone result (first_value (found_of matches.now) (codes "script") ≡ None) }
@@ -207,7 +207,7 @@ fn replay_by<'a>(matches: &ArgMatches<'a>) -> Option<Asked<'a>>
     })
 }
 
-/// What the arguments of `follow` ask.
+/// What the arguments of `follow` ask for.
 fn follow_by<'a>(matches: &ArgMatches<'a>) -> Asked<'a>
     ensures { IsFollow (first_value (found_of matches.now) (codes "config")) (first_value (found_of matches.now) (codes "notes")) result }
 {
@@ -217,7 +217,7 @@ fn follow_by<'a>(matches: &ArgMatches<'a>) -> Asked<'a>
     }
 }
 
-/// So many turns, where it is a number of turns.
+/// This many turns, if it is a number of turns.
 fn given_turns(turns: Option<u64>) -> Option<Option<u64>>
     ensures { result ≡ given_turns turns }
 {
@@ -227,7 +227,7 @@ fn given_turns(turns: Option<u64>) -> Option<Option<u64>>
     }
 }
 
-/// So many turns, or no end, where no number is given. None where it is none.
+/// This many turns, or no end if no number is given. None if the text is no number of turns.
 fn turns_in(text: Option<&str>) -> Option<Option<u64>>
     ensures { result ≡ turns_in (option_map (λ t. t.now) text.entry) }
 {
@@ -237,7 +237,7 @@ fn turns_in(text: Option<&str>) -> Option<Option<u64>>
     }
 }
 
-/// What the arguments of `serve` ask.
+/// What the arguments of `serve` ask for.
 fn serve_by<'a>(matches: &ArgMatches<'a>) -> Option<Asked<'a>>
     ensures some { IfSome result (λ a. IsServe (first_value (found_of matches.now) (codes "config")) (first_value (found_of matches.now) (codes "turns")) a) }
     ensures none { IfNone result (LacksServe (first_value (found_of matches.now) (codes "config")) (first_value (found_of matches.now) (codes "turns"))) }
@@ -265,13 +265,13 @@ fn asked_by<'a>(matches: &ArgMatches<'a>) -> Option<Asked<'a>>
     }
 }
 
-/// Reads a command line, of which the first word is the program's own. A call for help is refused like any other word
-/// that asks for nothing, and its text handed out.
+/// Reads a command line, whose first word is the program's own name. A call for help is refused like any other words
+/// that ask for nothing, and its text is returned.
 #[tactic(auto, unfolding(crate::specs::Words::entered_by, crate::specs::Words::is_taken, crate::specs::Words::passes))]
 pub fn command<'a>(alloc: Global, words: &'a [&'a str]) -> Result<Asked<'a>, CommandError>
-    // What the words ask.
+    // What the words ask for.
     ensures asked { IfOk result (λ a. Asks (map (λ w. w.now) words.now) a) }
-    // Only words in which the parser finds no fault ask anything.
+    // Only words in which the parser finds no fault ask for anything.
     ensures passes { OnOk result (passes (map (λ w. w.now) words.now)) }
     ensures refused { IfErr result (λ e. RefusesWords (map (λ w. w.now) words.now) e) }
 {

@@ -1,4 +1,4 @@
--- Parts of a clean text are clean, and texts that end in no blank.
+-- Parts of a clean text are clean, and texts that do not end in a blank.
 use Rattle.std.proofs.Common.{◌≡◌, ℕ, Bool, true, false, ◌&&◌, cond, eqb, List, [], ◌∷◌, ◌++◌, Option, Some, None, refl, subst}
 use Rattle.std.specs.Prelude.{option_map}
 use Rattle.std.specs.List.{list_all, onto_first}
@@ -53,7 +53,7 @@ clean_pieces c within (b ∷ bs) h =
 
 -- ---- ends
 
--- no blank stands at the end
+-- there is no blank at the end
 abbrev pub Ends : List ℕ → Type 0
 Ends t = without_end t ≡ t
 

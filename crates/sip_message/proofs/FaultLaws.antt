@@ -1,4 +1,4 @@
--- Faults go through the steps behind them.
+-- Faults pass through the steps after them.
 use Rattle.std.proofs.Common.{◌≡◌, Result, Ok, Err, IsErrAnd, sym, ap, subst}
 use Rattle.sip_message.specs.declared.error.MessageError.{MessageError}
 use Rattle.sip_message.specs.declared.error.MessageError.TheVariants.{OutOfMemory, StartLine, Version, HeaderLine, Missing, Unreadable, Short, TooLong}
@@ -26,7 +26,7 @@ failed_then (Unreadable name) step next h = ap (λ s. and_then s next) h
 failed_then Short step next h = ap (λ s. and_then s next) h
 failed_then TooLong step next h = ap (λ s. and_then s next) h
 
--- what a `?` hands out
+-- what a `?` returns
 pub handed_out : {X : Type 0} (r : Result X MessageError) (e : MessageError) (read : Result X MessageError) → IsErrAnd r (λ d. d ≡ e) → Fails e read → Gives r read
 handed_out (Ok x) e read h k = absurd h
 handed_out (Err d) e read h k = subst (λ (b : MessageError). Fails b read) (sym h) k

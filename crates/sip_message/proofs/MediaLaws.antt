@@ -1,4 +1,4 @@
--- A media range that is read in lower case is given as it stands.
+-- A media range that is read in lower case is returned unchanged.
 use Rattle.std.proofs.Common.{◌≡◌, ℕ, Bool, true, false, ◌&&◌, ◌||◌, ltb, List, [], ◌∷◌, ◌++◌, Option, Some, None, refl, sym, ap, ◌∙◌, arith}
 use Rattle.std.specs.Prelude.{is_some, unwrap_or}
 use Rattle.std.specs.Char.{to_ascii_lowercase}

@@ -46,7 +46,7 @@ cuts opens = record {
   behind = ap after_line_end opens.whole ∙ after_again opens.line opens.rest opens.clean;
 }
 
--- what start line, header fields and rest of a text are read as, where they say so
+-- what start line, header fields and rest of a text are read as, if they say so
 request_again : (text : List ℕ) (r : Request) (reads : ReadsRequest text r) → message_by (start_of_request r) reads.fields reads.raw ≡ Ok (Kinds.Request r)
 request_again text r reads =
     ap (λ c. and_then c (λ x. ok (message_with (start_of_request r) reads.fields x))) (contents_again (start_of_request r) reads.fields reads.raw (contents_with r.parts r.max_forwards r.body) reads.says)
@@ -183,7 +183,7 @@ refused_at text (Err TooLong) gives = refused_with text TooLong gives
 pub only_at : (text : List ℕ) (r : Result Message MessageError) (m : Message) (reads : ReadsMessage text m) → Gives r (message_of text) → IsWithin text m reads → Gives r (Ok m)
 only_at text r m reads gives within = subst (λ (f : Result Message MessageError). Gives r f) (message_again text m reads within) gives
 
--- ---- a text has one value at most
+-- ---- a text has at most one value
 
 abbrev kept : Start → Result Start MessageError
 kept s = Ok s

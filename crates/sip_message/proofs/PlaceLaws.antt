@@ -1,4 +1,4 @@
--- The header fields of a message that was read stand in its text, one behind the other.
+-- The header fields of a message that was read are in its text, one after the other.
 use Rattle.std.proofs.Common.{◌≡◌, ℕ, ◌+◌, List, [], ◌∷◌, ◌++◌, length, Result, Ok, Err, refl, sym, ap, ◌∙◌, append_assoc, length-append}
 use Rattle.std.specs.Prelude.{IfOk}
 use Rattle.sip_message.specs.declared.error.MessageError.{MessageError}

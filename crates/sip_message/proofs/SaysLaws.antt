@@ -1,4 +1,4 @@
--- What the header fields of a message say is what is read of them.
+-- What the header fields of a message say is what is read from them.
 use Rattle.std.proofs.Common.{◌≡◌, ℕ, ◌+◌, ◌≤◌, Bool, true, false, cond, leb, List, [], ◌∷◌, ◌++◌, length, map, take, drop, Option, Some, None, Result, Ok, Err, refl, sym, ap, subst, ◌∙◌, codes, arith}
 use Rattle.std.specs.Char.{is_ascii_digit}
 use Rattle.std.proofs.lemmas.Bool.{leb-true, le-leb}
@@ -355,7 +355,7 @@ values_again start fields v says =
 abbrev contents : Values → List ℕ → Contents
 contents v body = record { values = v; body = body }
 
--- what is read of the header fields is what they say
+-- what is read from the header fields is what they say
 pub contents_are : (start : Start) (fields : List Header) (raw : List ℕ) (c : Contents) → contents_of start fields raw ≡ Ok c → Says start fields raw c.values.parts c.values.max_forwards c.body
 unfolding contents_of body_of
 contents_are start fields raw c h =

@@ -10,7 +10,7 @@ use Rattle.sip_message.specs.Lookup.{is_named, values_named}
 use Rattle.sip_message.specs.Seen.{Standing, absent, repeated, standing_of, and_value, and_header}
 use Rattle.sip_message.proofs.ViaLaws.{fields_from}
 
--- and all these values behind
+-- with all these values added
 abbrev pub and_values : Standing → List (List ℕ) → Standing
 and_values standing [] = standing
 and_values standing (v ∷ vs) = and_values (and_value v standing) vs

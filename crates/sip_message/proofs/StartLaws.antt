@@ -26,7 +26,7 @@ by_version start version = cond (is_version version) (Ok start) (Err Version)
 space_lacks : (text : List ℕ) → has_no_space text ≡ true → Lacks 32 text
 space_lacks text h = Lacks-from_class (λ b. not (eqb b 32)) 32 refl text h
 
--- ---- a line of the form is read, but for its version
+-- ---- a line of the form is read, except for its version
 
 -- a line that is cut at its first two spaces
 record Cut (text first second third : List ℕ) : Type 0 where

@@ -32,7 +32,7 @@ one_put front more via left text piece behind all is cuts read put so_far =
     ap each_via (next_here 44 refl left text piece behind is cuts) ∙ ap (λ (o : Option Via). with_via o (each_via (pieces_left 44 behind))) (sym read) in
     ap (λ (vs : List Via). put_before vs (each_via (pieces_left 44 behind))) put ∙ sym (one_more front via (each_via (pieces_left 44 behind))) ∙ ap (put_before front) (sym next) ∙ so_far
 
--- a piece that is none
+-- a piece that is not a value
 pub none_put : (front : List Via) (left : Option (Bor (List ℕ))) (text : Bor (List ℕ)) (piece : List ℕ) (behind : Option (List ℕ)) (all : Option (List Via)) → left ≡ Some text
     → pieces_behind 44 piece behind ≡ pieces 44 Nothing text.now → None ≡ via_of piece → put_before front (each_via (pieces_left 44 (option_copied left))) ≡ all → all ≡ None
 none_put front left text piece behind all is cuts read so_far =
@@ -137,7 +137,7 @@ field_put vias more h hs all named r put whether so_far =
       twice xs ys None = refl
       twice xs ys (Some zs) = ap (λ (vs : List Via). Some vs) (append_assoc xs ys zs)
 
--- a field with a value that is none
+-- a field with a text that is not a value
 pub field_refused : (vias : List Via) (h : Header) (hs : List Header) (all : Option (List Via)) → is_named (codes "Via") h ≡ true → (r : Bool) (more : List Via)
     → put_before vias (each_via (pieces 44 Nothing h.value)) ≡ cond r (Some more) None → r ≡ false
     → put_before vias (each_via (via_texts (h ∷ hs))) ≡ all → None ≡ all

@@ -1,5 +1,5 @@
--- What can be answered of a request that can't be read (RFC 3261 section 8.2.6): the values that a response repeats,
--- each read alone.
+-- What can be answered for a request that can't be read (RFC 3261 section 8.2.6): the values that a response repeats,
+-- each read by itself.
 use Rattle.std.specs.Prelude.{ℕ, Bool, false, not, ◌&&◌, nat_eq, List, [], ◌∷◌, codes, Option, Some, None, option_map, option_and_then, if◌then◌else◌}
 use Rattle.std.specs.Cmp.Lexicographic.{pointwise}
 use Rattle.text.specs.Cut.{before, after}
@@ -29,12 +29,12 @@ abbrev pub are_two_parts : Option (List ℕ) → Bool
 are_two_parts None = false
 are_two_parts (Some text) = is_part (before 32 text) && is_part_there (after 32 text)
 
--- a method that asks for a response: an ACK gets none (section 17), and a first line that begins with `SIP/` is that of
--- a response
+-- a method that gets a response: an ACK gets none (section 17), and a first line that begins with `SIP/` is that of a
+-- response
 abbrev pub asks_answer : List ℕ → Bool
 asks_answer method = is_part method && not (begins_sip method) && not (pointwise nat_eq method (codes "ACK"))
 
--- three parts with a single space between each two, whatever they are
+-- three parts separated by single spaces, whatever they are
 abbrev pub is_asking_line : List ℕ → Bool
 is_asking_line line = asks_answer (before 32 line) && are_two_parts (after 32 line)
 
@@ -45,7 +45,7 @@ abbrev pub vias_there : List (List ℕ) → Option (List Via)
 vias_there [] = None
 vias_there (text ∷ texts) = each_via (text ∷ texts)
 
--- of header fields that stand twice the first is read; From needs no tag here
+-- of header fields that occur twice, the first is read; From needs no tag here
 abbrev pub party_at : List ℕ → Option Party
 party_at text = option_map (λ name. record { text = text; name = name }) (party_of text)
 
@@ -85,6 +85,6 @@ abbrev pub parts_behind : Option (List ℕ) → Option Parts
 parts_behind None = None
 parts_behind (Some rest) = parts_among (readable_headers (ended_lines rest))
 
--- what a response to the datagram repeats; none, where it can't be answered
+-- what a response to the datagram repeats; none if it can't be answered
 unfoldable pub answerable_of : List ℕ → Option Parts
 answerable_of text = if is_asking_line (before_line_end text) then parts_behind (after_line_end text) else None

@@ -10,6 +10,6 @@ is_word_byte b = is_ascii_alphanumeric b || is_one_of (codes "-.!%*_+`'~()<>:\\\
 abbrev pub is_word : List ℕ → Bool
 is_word text = is_run_of is_word_byte text
 
--- a word, or two words round an `@`
+-- a word, or two words around an `@`
 abbrev pub is_call_id : List ℕ → Bool
 is_call_id text = is_word (before 64 text) && passes_if_there is_word (after 64 text)

@@ -54,8 +54,8 @@ abbrev pub need_by_method : List ℕ → ContactNeed
 need_by_method method =
     if pointwise nat_eq method (codes "INVITE") then One else if pointwise nat_eq method (codes "UPDATE") then AtMostOne else Unlooked
 
--- an INVITE, and a 2xx to one, says where its sender is reached, and an UPDATE, and a 2xx to one, may say so: by the
--- method of its CSeq (sections 12.1.1, 12.1.2 and 13.3.1.4, RFC 3311 section 4)
+-- an INVITE, and a 2xx to one, says where its sender can be reached, and an UPDATE, and a 2xx to one, may say so: by
+-- the method of its CSeq (sections 12.1.1, 12.1.2 and 13.3.1.4, RFC 3311 section 4)
 abbrev pub contact_need : Start → List ℕ → ContactNeed
 contact_need start method = if may_need_contact start then need_by_method method else Unlooked
 

@@ -10,7 +10,7 @@ use Rattle.header_fields.specs.declared.headers.Header.{Header}
 use Rattle.sip_message.specs.Faults.{and_then}
 use Rattle.sip_message.specs.Lookup.{is_named, values_named, at_most_one}
 
--- every header field but Content-Length
+-- every header field except Content-Length
 abbrev pub without_length : List Header → List Header
 without_length headers = filter (λ h. not (is_named (codes "Content-Length") h)) headers
 
@@ -27,7 +27,7 @@ body_by rest None = Ok rest
 body_by rest (Some text) =
     if is_run_of is_ascii_digit text then long_enough (number_upto max_content_length text) rest else Err (Unreadable Names.ContentLength)
 
--- Content-Length stands once at most. As many bytes are the body as it says, or all where it does not stand; more bytes
--- are left out, and fewer are a fault (section 18.3).
+-- Content-Length occurs at most once. The body is as many bytes as it says, or all if it is absent; extra bytes are
+-- left out, and fewer are a fault (section 18.3).
 unfoldable pub body_of : List Header → List ℕ → Result (List ℕ) MessageError
 body_of headers rest = and_then (at_most_one Names.ContentLength (values_named (codes "Content-Length") headers)) (body_by rest)

@@ -1,10 +1,10 @@
--- Steps that may fail, and what a call answers of them.
+-- Steps that may fail, and what a call returns for them.
 use Rattle.std.specs.Prelude.{◌≡◌, Option, Some, None, Result, Ok, Err}
 use Rattle.sip_message.specs.declared.header_names.HeaderName.{HeaderName}
 use Rattle.sip_message.specs.declared.error.MessageError.{MessageError}
 use Rattle.sip_message.specs.declared.error.MessageError.TheVariants.{OutOfMemory, StartLine, Version, HeaderLine, Missing, Unreadable, Short, TooLong}
 
--- this fault is the one that reading gives; want of memory may come at any time
+-- this fault is the one that reading gives; a lack of memory may come at any time
 abbrev pub Fails : {X : Type 0} → MessageError → Result X MessageError → Type 0
 Fails OutOfMemory read = Unit {0}
 Fails StartLine read = read ≡ Err StartLine
@@ -15,12 +15,12 @@ Fails (Unreadable name) read = read ≡ Err (Unreadable name)
 Fails Short read = read ≡ Err Short
 Fails TooLong read = read ≡ Err TooLong
 
--- A call gave what reading gives, unless memory ran out.
+-- A call returned what reading gives, unless memory ran out.
 abbrev pub Gives : {X : Type 0} → Result X MessageError → Result X MessageError → Type 0
 Gives (Ok x) read = read ≡ Ok x
 Gives (Err e) read = Fails e read
 
--- the next step, where the one before it gave a value
+-- the next step, if the one before it gave a value
 abbrev pub and_then : {X Y : Type 0} → Result X MessageError → (X → Result Y MessageError) → Result Y MessageError
 and_then (Ok x) next = next x
 and_then (Err e) next = Err e

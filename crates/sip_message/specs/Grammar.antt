@@ -1,5 +1,5 @@
--- Which texts are messages, by what they are made of, to be read beside RFC 3261. No limit is part of it: how long a
--- text may be, and how many header lines it may have, stand apart.
+-- Which texts are messages, by what they are made of, to be read alongside RFC 3261. No limit is part of it: how long
+-- a text may be, and how many header lines it may have, is defined separately.
 use Rattle.std.specs.Prelude.{◌≡◌, ℕ, Bool, true, false, ◌≤◌, ◌<◌, IsTrue, List, [], ◌∷◌, ◌++◌, length, map, codes, Some, Err}
 use Rattle.std.specs.Char.{is_ascii_digit}
 use Rattle.text.specs.Class.{is_run_of, is_token_byte}
@@ -60,7 +60,7 @@ abbrev pub HasForm : List ℕ → Start → List ℕ → Type 0
 HasForm text (Asking line) version = HasRequestForm text line version
 HasForm text (Answering line) version = HasStatusForm text line version
 
--- a start line (section 7): its version is SIP/2.0 without case
+-- a start line (section 7): its version is SIP/2.0, ignoring case
 pub record IsStartLine (text : List ℕ) (start : Start) : Type 0 where
   pub version : List ℕ
   pub form : HasForm text start version
@@ -77,7 +77,7 @@ pub record Opens (text : List ℕ) (start : Start) (fields : List Header) (raw :
   pub begins : IsStartLine line start
   pub head : ReadsHead rest fields raw
 
--- how many header lines it has, lines that continue others included
+-- how many header lines it has, including continuation lines
 abbrev pub lines_of : {text : List ℕ} {start : Start} {fields : List Header} {raw : List ℕ} → Opens text start fields raw → ℕ
 lines_of opens = line_count opens.head
 
@@ -85,52 +85,51 @@ lines_of opens = line_count opens.head
 
 -- what a response repeats is what the header fields say (section 8.1.1)
 pub record SaysParts (start : Start) (fields : List Header) (parts : Parts) : Type 0 where
-  -- one Via at least, and each is read, in order (section 20.42)
+  -- at least one Via, and each is read, in order (section 20.42)
   pub some_via : parts.vias ≡ [] → ⊥
   pub each_via : map via_of (via_texts fields) ≡ map (λ via. Some via) parts.vias
-  -- From stands once, and has a tag in a request (section 20.20)
+  -- From occurs once, and has a tag in a request (section 20.20)
   pub one_from : values_named (codes "From") fields ≡ parts.from_text ∷ []
   pub from : party_of parts.from_text ≡ Some parts.from
   pub from_tag : IsTrue (is_tagged_for start parts.from.params)
-  -- To stands once (section 20.39)
+  -- To occurs once (section 20.39)
   pub one_to : values_named (codes "To") fields ≡ parts.to_text ∷ []
   pub to : party_of parts.to_text ≡ Some parts.to
-  -- Call-ID stands once (section 20.8)
+  -- Call-ID occurs once (section 20.8)
   pub one_call_id : values_named (codes "Call-ID") fields ≡ parts.call_id ∷ []
   pub call_id : IsTrue (is_call_id parts.call_id)
-  -- CSeq stands once, and its method is a request's own (section 20.16)
+  -- CSeq occurs once, and its method is a request's own (section 20.16)
   pub one_cseq : values_named (codes "CSeq") fields ≡ parts.cseq_text ∷ []
   pub cseq : cseq_of parts.cseq_text ≡ Some parts.cseq
   pub cseq_method : IsTrue (is_method_for start parts.cseq.method)
 
--- the values of Contact: one address where one is needed, one at most where it may stand, and elsewhere it isn't looked
--- at
+-- the values of Contact: one address if one is needed, at most one if one is allowed, and otherwise it isn't checked
 abbrev pub SaysContact : ContactNeed → List ContactValue → Type 0
 SaysContact One values = IsTrue (is_one_address values)
 SaysContact AtMostOne values = IsTrue (is_one_address_at_most values)
 SaysContact Unlooked values = Unit {0}
 
--- the values of Max-Forwards, of which there is one at most: it is 0 to 255 (section 20.22), and the usual one where
+-- the values of Max-Forwards, of which there is at most one: it is 0 to 255 (section 20.22), and the usual one if
 -- there is none (section 8.1.1.6)
 abbrev pub SaysHops : List (List ℕ) → ℕ → Type 0
 SaysHops [] hops = hops ≡ usual_hops
 SaysHops (text ∷ []) hops = max_forwards_of text ≡ Some hops
 SaysHops (one ∷ two ∷ more) hops = ⊥
 
--- the values of Content-Type, of which there is one at most: it is a media type (section 20.15)
+-- the values of Content-Type, of which there is at most one: it is a media type (section 20.15)
 abbrev pub SaysType : List (List ℕ) → Type 0
 SaysType [] = Unit {0}
 SaysType (text ∷ []) = IsTrue (is_media_type text)
 SaysType (one ∷ two ∷ more) = ⊥
 
--- the values of Content-Length, of which there is one at most (section 20.14): as many bytes are the body as it says,
--- and others may stand behind them; where there is none, all bytes are the body (section 18.3)
+-- the values of Content-Length, of which there is at most one (section 20.14): the body is as many bytes as it says,
+-- and others may come after them; if there is none, all bytes are the body (section 18.3)
 abbrev pub SaysBody : List (List ℕ) → List ℕ → List ℕ → Type 0
 SaysBody [] raw body = body ≡ raw
 SaysBody (text ∷ []) raw body = IsTrue (is_run_of is_ascii_digit text) × (number_upto max_content_length text ≡ Some (length body)) × ((behind : List ℕ) × (raw ≡ body ++ behind))
 SaysBody (one ∷ two ∷ more) raw body = ⊥
 
--- values and body are what the header fields, and the bytes behind them, say
+-- values and body are what the header fields, and the bytes after them, say
 pub record Says (start : Start) (fields : List Header) (raw : List ℕ) (parts : Parts) (hops : ℕ) (body : List ℕ) : Type 0 where
   pub says_parts : SaysParts start fields parts
   pub says_contact : SaysContact (contact_need start parts.cseq.method) (contacts_of fields)
@@ -154,7 +153,7 @@ pub record ReadsRequest (text : List ℕ) (request : Request) : Type 0 where
   pub says : Says (start_of_request request) fields raw request.parts request.max_forwards request.body
   pub headers : request.headers ≡ without_length fields
 
--- the text is this answer (section 7.2)
+-- the text is this response (section 7.2)
 pub record ReadsResponse (text : List ℕ) (response : Response) : Type 0 where
   pub fields : List Header
   pub raw : List ℕ
@@ -181,8 +180,8 @@ IsShort text = length text ≤ max_datagram
 abbrev pub IsWithin : (text : List ℕ) (message : Message) → ReadsMessage text message → Type 0
 IsWithin text message reads = IsShort text × (header_lines text message reads ≤ max_lines)
 
--- start line and header fields stand, and the first header field, in the order of `HeaderName`, that does not say its
--- value, or then the body, has this fault
+-- start line and header fields are well formed; the first header field, in the order of `HeaderName`, that does not
+-- give its value has this fault, or otherwise the body has it
 pub record RefusesContents (text : List ℕ) (fault : MessageError) : Type 0 where
   pub short : IsShort text
   pub start : Start

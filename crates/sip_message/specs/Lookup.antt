@@ -1,4 +1,4 @@
--- Headers that are looked up by their names, without case (RFC 3261 section 7.3.1): of some one may stand at most.
+-- Headers that are looked up by name, ignoring case (RFC 3261 section 7.3.1); some of them may occur at most once.
 use Rattle.std.specs.Prelude.{◌≡◌, ℕ, List, [], ◌∷◌, codes, Option, Some, None, Result, Ok, Err}
 use Rattle.sip_message.specs.declared.header_names.HeaderName.{HeaderName}
 use Rattle.sip_message.specs.declared.error.MessageError.{MessageError}
@@ -9,13 +9,13 @@ use Rattle.sip_message.specs.declared.lookup.Found.{Found}
 use Rattle.sip_message.specs.Seen.{Standing, absent, single, repeated, standing_of, seen}
 pub use Rattle.header_fields.specs.Lookup.{named, is_named, first_named, value_named, values_named}
 
--- a header field that stands once at most: twice is a fault of its value
+-- a header field that occurs at most once: twice is a fault of its value
 abbrev pub at_most_one : HeaderName → List (List ℕ) → Result (Option (List ℕ)) MessageError
 at_most_one which [] = Ok None
 at_most_one which (v ∷ []) = Ok (Some v)
 at_most_one which (v ∷ w ∷ vs) = Err (Unreadable which)
 
--- a header field that stands once
+-- a header field that occurs once
 abbrev pub exactly_one : HeaderName → List (List ℕ) → Result (List ℕ) MessageError
 exactly_one which [] = Err (Missing which)
 exactly_one which (v ∷ []) = Ok v
@@ -39,7 +39,7 @@ one_seen which absent = Err (Missing which)
 one_seen which (single v) = Ok v
 one_seen which repeated = Err (Unreadable which)
 
--- the header fields of which one may stand, as they stand among these
+-- the header fields that may occur once, as they occur among these
 pub record IsFound (found : Found) : Type 0 where
   pub from : seen found.from ≡ standing_of (values_named (codes "From") found.headers.now)
   pub to : seen found.to ≡ standing_of (values_named (codes "To") found.headers.now)

@@ -8,7 +8,7 @@ use Rattle.sip_uri.specs.declared.uri.Param.{Param}
 use Rattle.sip_uri.specs.FieldParams.{field_params_read}
 use Rattle.sip_uri.specs.Quoted.{is_quoted}
 
--- a token with blanks round it
+-- a token with blanks around it
 abbrev pub is_token : List ℕ → Bool
 is_token text = is_run_of is_token_byte (trimmed text)
 
@@ -20,7 +20,7 @@ is_there_and p (Some text) = p text
 abbrev pub is_media_range : List ℕ → Bool
 is_media_range text = is_token (before 47 text) && is_there_and is_token (after 47 text)
 
--- a token or a quoted string, and no host: m-value of section 25.1
+-- a token or a quoted string, but not a host: m-value of section 25.1
 abbrev pub is_media_value : List ℕ → Bool
 is_media_value value = is_run_of is_token_byte value || is_quoted value
 

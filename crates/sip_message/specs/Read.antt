@@ -15,14 +15,14 @@ use Rattle.sip_message.specs.Start.{start_of}
 use Rattle.sip_message.specs.Values.{values_of}
 use Rattle.sip_message.specs.ContentLength.{without_length, body_of}
 
--- bytes in a datagram that is read, and header lines in it, lines that continue others included
+-- bytes in a datagram that is read, and header lines in it, including continuation lines
 abbrev pub max_datagram : ℕ
 max_datagram = 16384
 
 abbrev pub max_lines : ℕ
 max_lines = 128
 
--- the values of the header fields go before the body
+-- the values of the header fields are read before the body
 unfoldable pub contents_of : Start → List Header → List ℕ → Result Contents MessageError
 contents_of start fields rest =
     and_then (values_of start fields) (λ values. and_then (body_of fields rest) (λ body. Ok (record { values = values; body = body })))
@@ -55,7 +55,7 @@ abbrev pub behind_start : Start → Option (List ℕ) → Result Message Message
 behind_start start None = Err HeaderLine
 behind_start start (Some rest) = with_fields start (head_of (max_lines + 1) rest)
 
--- a start line with a bare CR or LF, or a NUL, is the fault of a line; its other faults go before
+-- a start line with a bare CR or LF, or a NUL, is the fault of a line; its other faults take precedence
 abbrev pub clean_start : List ℕ → Option (List ℕ) → Start → Result Message MessageError
 clean_start line rest start = if is_clean line then behind_start start rest else Err HeaderLine
 

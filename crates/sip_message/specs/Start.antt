@@ -1,5 +1,5 @@
--- The start line of a message: of a request method, Request-URI and version, of a response version, number and reason,
--- with a single space between each two (RFC 3261 sections 7.1 and 7.2).
+-- The start line of a message: of a request method, Request-URI and version, of a response version, number and
+-- reason, separated by single spaces (RFC 3261 sections 7.1 and 7.2).
 use Rattle.std.specs.Prelude.{ℕ, Bool, not, ◌&&◌, ◌==◌, nat_le, List, length, codes, Option, Some, None, is_some, Result, Ok, Err, if◌then◌else◌}
 use Rattle.std.specs.List.{list_all}
 use Rattle.std.specs.Char.{is_ascii_digit}
@@ -25,7 +25,7 @@ is_part text = not (length text == 0) && has_no_space text
 abbrev pub is_version : List ℕ → Bool
 is_version text = str_eq_ignore_ascii_case text (codes "SIP/2.0")
 
--- the text begins with `SIP/`, without case, and so its line is that of a response
+-- the text begins with `SIP/`, ignoring case, and so its line is that of a response
 abbrev pub begins_sip : List ℕ → Bool
 begins_sip text = str_eq_ignore_ascii_case (before 47 text) (codes "SIP") && is_some (after 47 text)
 
@@ -43,7 +43,7 @@ abbrev pub with_status : List ℕ → List ℕ → Option ℕ → Result Start M
 with_status version reason None = Err StartLine
 with_status version reason (Some status) = if is_version version then Ok (Answering (record { status = status; reason = reason })) else Err Version
 
--- a bad number goes before a bad version
+-- a bad number takes precedence over a bad version
 abbrev pub status_at : List ℕ → List ℕ → List ℕ → Result Start MessageError
 status_at version digits reason = with_status version reason (status_read digits)
 
@@ -53,7 +53,7 @@ abbrev pub with_uri : List ℕ → List ℕ → Result Uri UriError → Result S
 with_uri method version (Ok uri) = if is_version version then Ok (Asking (record { method = method; uri = uri })) else Err Version
 with_uri method version (Err e) = Err StartLine
 
--- a bad method, URI or number of parts goes before a bad version
+-- a bad method, URI or number of parts takes precedence over a bad version
 abbrev pub request_at : List ℕ → List ℕ → List ℕ → Result Start MessageError
 request_at method uri version = if is_run_of is_token_byte method && is_part version then with_uri method version (uri_of uri) else Err StartLine
 

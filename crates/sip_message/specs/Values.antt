@@ -41,12 +41,12 @@ abbrev pub with_text : List ℕ → Result NameAddr MessageError → Result Part
 with_text text (Ok name) = Ok (record { text = text; name = name })
 with_text text (Err e) = Err e
 
--- From stands once, and has a tag in a request
+-- From occurs once, and has a tag in a request
 abbrev pub from_for : Start → List Header → Result Party MessageError
 from_for start headers =
     and_then (exactly_one Names.From (values_named (codes "From") headers)) (λ text. with_text text (readable Names.From (if_tagged start (party_of text))))
 
--- To stands once
+-- To occurs once
 abbrev pub to_of : List Header → Result Party MessageError
 to_of headers = and_then (exactly_one Names.To (values_named (codes "To") headers)) (λ text. with_text text (readable Names.To (party_of text)))
 
@@ -62,7 +62,7 @@ abbrev pub with_number : List ℕ → Result CSeq MessageError → Result Sequen
 with_number text (Ok cseq) = Ok (record { text = text; cseq = cseq })
 with_number text (Err e) = Err e
 
--- CSeq stands once, and its method is a request's own
+-- CSeq occurs once, and its method is a request's own
 abbrev pub cseq_for : Start → List Header → Result Sequence MessageError
 cseq_for start headers =
     and_then (exactly_one Names.CSeq (values_named (codes "CSeq") headers)) (λ text. with_number text (readable Names.CSeq (of_method start (cseq_of text))))
@@ -76,8 +76,8 @@ contacts_for One values = one_address values
 contacts_for AtMostOne values = if is_one_address_at_most values then Ok tt else Err (Unreadable Names.Contact)
 contacts_for Unlooked values = Ok tt
 
--- Contact has one value, an address, where the message needs one, and one at most where it may have one; elsewhere it
--- isn't looked at
+-- Contact has one value, an address, if the message needs one, and at most one if it may have one; otherwise it isn't
+-- checked
 abbrev pub contact_for : Start → List ℕ → List Header → Result (Unit {0}) MessageError
 contact_for start method headers = contacts_for (contact_need start method) (contacts_of headers)
 
@@ -85,7 +85,7 @@ abbrev pub hops_by : Option (List ℕ) → Result ℕ MessageError
 hops_by None = Ok usual_hops
 hops_by (Some text) = readable Names.MaxForwards (max_forwards_of text)
 
--- Max-Forwards stands once at most; the usual hops where it does not stand (section 8.1.1.6)
+-- Max-Forwards occurs at most once; the usual hops if it is absent (section 8.1.1.6)
 abbrev pub hops_of : List Header → Result ℕ MessageError
 hops_of headers = and_then (at_most_one Names.MaxForwards (values_named (codes "Max-Forwards") headers)) hops_by
 
@@ -93,7 +93,7 @@ abbrev pub type_by : Option (List ℕ) → Result (Option (List ℕ)) MessageErr
 type_by None = Ok None
 type_by (Some text) = if is_media_type text then Ok (Some text) else Err (Unreadable Names.ContentType)
 
--- Content-Type stands once at most
+-- Content-Type occurs at most once
 abbrev pub type_of : List Header → Result (Option (List ℕ)) MessageError
 type_of headers = and_then (at_most_one Names.ContentType (values_named (codes "Content-Type") headers)) type_by
 
@@ -122,7 +122,7 @@ parts_of start headers =
     and_then (cseq_for start headers) (λ cseq.
     Ok (parts_with vias ends.from ends.to call_id cseq)))))
 
--- the hops, where Contact, Max-Forwards and Content-Type can be read
+-- the hops, if Contact, Max-Forwards and Content-Type can be read
 abbrev pub hops_behind : Start → List ℕ → List Header → Result ℕ MessageError
 hops_behind start method headers =
     and_then (contact_for start method headers) (λ contact. and_then (hops_of headers) (λ hops. and_then (type_of headers) (λ content_type. Ok hops)))

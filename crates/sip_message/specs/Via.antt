@@ -22,7 +22,7 @@ use Rattle.sip_message.specs.declared.via.Via.{Via}
 use Rattle.sip_message.specs.Faults.{readable}
 use Rattle.sip_message.specs.Lookup.{values_named}
 
--- ---- the parts: `SIP/2.0/UDP host:port;params`, with blanks round the slashes, the colon and the semicolons
+-- ---- the parts: `SIP/2.0/UDP host:port;params`, with blanks around the slashes, the colon and the semicolons
 
 pub record RawVia : Type 0 where
   pub name : List ℕ
@@ -32,7 +32,7 @@ pub record RawVia : Type 0 where
   pub port : Option (List ℕ)
   pub params : Option (List ℕ)
 
--- behind the byte c, or nothing
+-- after the byte c, or nothing
 abbrev pub behind : ℕ → List ℕ → List ℕ
 behind c text = unwrap_or (after c text) []
 
@@ -51,11 +51,11 @@ raw_via_of text =
       params = after 59 text;
     }
 
--- digits that stand for 1 to 65535
+-- digits that mean 1 to 65535
 abbrev pub is_port : List ℕ → Bool
 is_port text = is_run_of is_ascii_digit text && nat_lt 0 (unwrap_or (number_upto 65535 text) 0)
 
--- the protocol is SIP/2.0/UDP without case, and a port is one
+-- the protocol is SIP/2.0/UDP, ignoring case, and a port is one
 unfoldable pub is_raw_via : RawVia → Bool
 is_raw_via r =
     str_eq_ignore_ascii_case r.name (codes "SIP") && str_eq_ignore_ascii_case r.version (codes "2.0") && str_eq_ignore_ascii_case r.transport (codes "UDP")

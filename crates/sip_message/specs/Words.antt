@@ -1,4 +1,4 @@
--- Words on messages that the crates above share.
+-- Message vocabulary that the crates above share.
 use Rattle.std.specs.Prelude.{ℕ, Bool, ◌&&◌, ◌||◌, nat_eq, nat_lt, List, [], ◌∷◌, ◌++◌, map, codes, unwrap_or, option_map, Option, Some, None, if◌then◌else◌}
 use Rattle.std.specs.Char.{to_ascii_lowercase}
 use Rattle.std.specs.Cmp.Lexicographic.{pointwise}
@@ -42,7 +42,7 @@ tag_text params = unwrap_or (tag_value params) []
 abbrev pub is_method : List ℕ → Parts → Bool
 is_method name parts = pointwise nat_eq parts.cseq.method name
 
--- a response below 200 is provisional, and one from 300 on a final one that is no success (section 7.2)
+-- a response below 200 is provisional, and one from 300 on is final and not a success (section 7.2)
 abbrev pub class_of : ℕ → Class
 class_of status = if nat_lt status 200 then Provisional else if nat_lt status 300 then Success else Failure
 
@@ -55,10 +55,10 @@ lower_case text = map to_ascii_lowercase text
 abbrev pub is_range_byte : ℕ → Bool
 is_range_byte b = nat_lt 90 b || nat_lt 32 b && nat_lt b 65
 
--- `type/subtype` in lower case, without the blanks round its slash and without parameters
+-- `type/subtype` in lower case, without the blanks around its slash and without parameters
 abbrev pub media_range : List ℕ → List ℕ
 media_range text = lower_case (trimmed (before 47 text)) ++ 47 ∷ lower_case (trimmed (unwrap_or (after 47 text) []))
 
--- what the body is, as Content-Type says it (section 7.4.1)
+-- what the body is according to Content-Type (section 7.4.1)
 abbrev pub content_type_of : List Header → Option (List ℕ)
 content_type_of headers = option_map (λ value. media_range (before 59 value)) (value_named (codes "Content-Type") headers)

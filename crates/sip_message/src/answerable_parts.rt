@@ -1,4 +1,4 @@
-//! What can be answered of a request that can't be read.
+//! What can be answered for a request that can't be read.
 
 ghost use Rattle.std.specs.Prelude.{◌≡◌, codes, option_map, IfOk};
 ghost use Rattle.std.specs.Option.{option_copied};
@@ -155,10 +155,11 @@ fn parts_behind(alloc: Global, rest: &[u8]) -> Result<Option<Parts<'_>>, AllocEr
     parts_among(alloc, &headers)
 }
 
-/// What a response to a datagram that can't be read repeats of it. There is something where the first line has three
-/// parts, is no response's and its method not ACK, and Via, From, To, Call-ID and CSeq are there and can each be read
-/// alone: of header lines that end and are of their form, the first of each name; From needs no tag, and CSeq not the
-/// request's method. There is nothing where the first line begins with `SIP/`, without case.
+/// What a response to a datagram that can't be read repeats of it. There is something if the first line has three
+/// parts, is not a response's and its method is not ACK. Via, From, To, Call-ID and CSeq also have to be there, and
+/// each has to be readable by itself. They are taken from header lines that end and are well formed, the first of
+/// each name; From needs no tag, and CSeq not the request's method. There is nothing if the first line begins with
+/// `SIP/`, ignoring case.
 #[tactic(auto, unfolding(crate::specs::AnswerableParts::answerable_of))]
 pub fn answerable(alloc: Global, bytes: &[u8]) -> Result<Option<Parts<'_>>, AllocError>
     ensures parts { IfOk result (λ parts. parts ≡ answerable_of bytes.now) }

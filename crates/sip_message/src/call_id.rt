@@ -6,7 +6,7 @@ ghost use Rattle.sip_message.specs.CallId.{is_word_byte, is_word, is_call_id};
 
 use text::cut;
 
-/// Each byte of a word stands at its own place, and a bar at every other place.
+/// Each byte of a word is at its own place, and a bar is at every other place.
 static WORD_BYTES: [u8; 256] = *b"\
     ||||||||||||||||||||||||||||||||\
     |!\"||%|'()*+|-./0123456789:|<|>?\
@@ -35,7 +35,7 @@ fn is_word(text: &[u8]) -> bool
     !text.is_empty() && all_word(text)
 }
 
-/// Whether the text is a Call-ID: a word, or two round an `@` (RFC 3261 section 25.1).
+/// Whether the text is a Call-ID: a word, or two around an `@` (RFC 3261 section 25.1).
 pub(crate) fn is_call_id(text: &[u8]) -> bool
     ensures { result ≡ is_call_id text.now }
 {

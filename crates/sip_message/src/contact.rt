@@ -15,10 +15,10 @@ use text::{Text, cut_piece, trim_blanks};
 /// One value of a Contact header field.
 #[derive(Drop)]
 pub enum ContactValue<'a> {
-    /// `*`, which stands for every binding.
+    /// `*`, which means every binding.
     Star,
     Address(NameAddr<'a>),
-    /// A text that is neither, or whose URI is of another scheme.
+    /// A text that is neither, or whose URI has another scheme.
     Unreadable,
 }
 
@@ -40,7 +40,7 @@ impl<'a> ContactValue<'a> {
 pub enum ContactNeed {
     One,
     AtMostOne,
-    /// They are not looked at.
+    /// They are not checked.
     Unlooked,
 }
 
@@ -64,7 +64,7 @@ fn read_contact(alloc: Global, text: &[u8]) -> Result<ContactValue<'_>, AllocErr
     }
 }
 
-/// Puts the values of a text behind those that are there.
+/// Appends the values of a text.
 fn put_lent<'a>(
     alloc: Global,
     contacts: &mut Vec<ContactValue<'a>>,
@@ -81,7 +81,7 @@ fn put_lent<'a>(
     Ok(())
 }
 
-/// Puts these values, which borrow nothing then, behind those that are there.
+/// Appends these values, which then borrow nothing.
 fn put_kept<'a>(
     alloc: Global,
     contacts: &mut Vec<ContactValue<'a>>,
@@ -95,7 +95,7 @@ fn put_kept<'a>(
     Ok(())
 }
 
-/// Puts the values of a header field behind those that are there.
+/// Appends the values of a header field.
 fn put_contacts<'a>(
     alloc: Global,
     contacts: &mut Vec<ContactValue<'a>>,
@@ -175,8 +175,8 @@ fn need_by_method(method: &[u8]) -> ContactNeed
     }
 }
 
-/// How many Contacts the message needs: an INVITE and a 2xx to one say where their sender is reached, and an UPDATE and
-/// a 2xx to one may say so.
+/// How many Contacts the message needs: an INVITE and a 2xx to one say where their sender can be reached, and an
+/// UPDATE and a 2xx to one may say so.
 pub(crate) fn contact_need(start: &Start<'_>, method: &Text<'_>) -> ContactNeed
     ensures { result ≡ contact_need start.now method.now }
 {

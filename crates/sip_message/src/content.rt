@@ -1,5 +1,5 @@
-//! What the body of a message is by its header fields: its type and its codings (RFC 3261 sections 7.4, 20.12 and
-//! 20.15).
+//! What the body of a message is according to its header fields: its type and its codings (RFC 3261 sections 7.4,
+//! 20.12 and 20.15).
 
 ghost use Rattle.std.specs.Prelude.{◌≡◌, map, IfOk};
 ghost use Rattle.std.specs.List.{list_all};
@@ -27,7 +27,7 @@ fn are_identities(codings: &[&[u8]]) -> bool
     true
 }
 
-/// Whether a Content-Encoding of this value leaves the body as it is.
+/// Whether a Content-Encoding with this value leaves the body as it is.
 fn is_uncoded_by(alloc: Global, value: &FieldValue<'_>) -> Result<bool, AllocError>
     ensures { IfOk result (λ b. b ≡ is_uncoded_by value.now) }
 {
@@ -47,8 +47,8 @@ fn is_uncoded_by_each(alloc: Global, values: &[&FieldValue<'_>]) -> Result<bool,
     Ok(true)
 }
 
-/// Whether each element of Content-Encoding leaves the body as it is: `identity`, without case. Without that header
-/// field it does; an empty element is no coding, so that the body is coded.
+/// Whether each element of Content-Encoding leaves the body as it is: `identity`, ignoring case. It does if that
+/// header field is absent; an empty element is not a coding, so the body counts as coded.
 pub fn is_uncoded(alloc: Global, headers: &[Header<'_>]) -> Result<bool, AllocError>
     ensures uncoded { IfOk result (λ b. b ≡ is_uncoded headers.now) }
 {
@@ -56,7 +56,7 @@ pub fn is_uncoded(alloc: Global, headers: &[Header<'_>]) -> Result<bool, AllocEr
     is_uncoded_by_each(alloc, &values)
 }
 
-/// Whether Content-Type is that of a description, `application/sdp`, or does not stand.
+/// Whether Content-Type is that of a description, `application/sdp`, or is absent.
 pub fn has_description_type(alloc: Global, headers: &[Header<'_>]) -> Result<bool, AllocError>
     ensures description_type { IfOk result (λ b. b ≡ has_description_type headers.now) }
 {

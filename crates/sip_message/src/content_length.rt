@@ -43,7 +43,7 @@ fn body_by<'a>(
     cut_body(number_upto(u32::MAX, text.as_bytes()), rest)
 }
 
-/// The body: of what stands behind the header fields, as many bytes as Content-Length says, or all.
+/// The body: of what follows the header fields, as many bytes as Content-Length says, or all.
 #[tactic(auto, unfolding(crate::specs::ContentLength::body_of), using(crate::proofs::FaultLaws::fails_itself))]
 pub(crate) fn read_body<'a>(
     alloc: Global,
@@ -63,7 +63,7 @@ fn drop_length(headers: &mut Vec<Header<'_>>)
     headers.retain(|header| !is_named(header, b"Content-Length"));
 }
 
-/// Every header field but Content-Length.
+/// Every header field except Content-Length.
 pub(crate) fn without_length(headers: Headers<'_>) -> Headers<'_>
     ensures { result ≡ without_length headers.entry }
 {

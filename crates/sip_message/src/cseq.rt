@@ -49,7 +49,7 @@ fn cseq_in(text: &[u8]) -> Option<CSeq<'_>>
     })
 }
 
-/// The value, if the text is a number, blanks and a method: lent where the text is.
+/// The value, if the text is a number, blanks and a method: lent if the text is.
 pub(crate) fn read_cseq<'a>(alloc: Global, text: &Text<'a>) -> Result<Option<CSeq<'a>>, AllocError>
     ensures { IfOk result (λ cseq. cseq ≡ cseq_of text.now) }
 {
@@ -62,7 +62,7 @@ pub(crate) fn read_cseq<'a>(alloc: Global, text: &Text<'a>) -> Result<Option<CSe
     }
 }
 
-/// Whether a CSeq may have this method: in a request only the request's.
+/// Whether a CSeq may have this method: in a request, only the request's own.
 pub(crate) fn is_method_for(start: &Start<'_>, method: &Text<'_>) -> bool
     ensures { result ≡ is_method_for start.now method.now }
 {

@@ -1,4 +1,4 @@
-//! Why bytes are no message.
+//! Why bytes are not a message.
 
 ghost use Rattle.std.specs.Prelude.{◌≡◌};
 ghost use Rattle.sip_message.specs.declared.error.MessageError.TheVariants.{OutOfMemory};
@@ -7,9 +7,9 @@ use crate::header_names::HeaderName;
 use std::alloc::{AllocError, AllocFailed};
 use thiserror::Error;
 
-/// The first fault of a datagram, or want of memory. The faults are looked for in this order: `TooLong`, `StartLine`,
-/// `Version`, `HeaderLine`, then header by header in the order of `HeaderName` first `Missing` and then `Unreadable`,
-/// then `Short`.
+/// The first fault of a datagram, or a lack of memory. The faults are checked in this order: `TooLong`, `StartLine`,
+/// `Version`, `HeaderLine`. Then comes each header in the order of `HeaderName`, first `Missing` and then
+/// `Unreadable`, and then `Short`.
 #[derive(Clone, Copy, Debug, Error)]
 pub enum MessageError {
     #[error("out of memory")]

@@ -2,7 +2,7 @@
 
 use std::fmt;
 
-/// The header fields that the server reads in every message, in the order in which they are looked at.
+/// The header fields that the server reads in every message, in the order in which they are checked.
 #[derive(Clone, Copy, Debug)]
 pub enum HeaderName {
     Via,

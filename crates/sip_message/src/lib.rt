@@ -1,6 +1,6 @@
 //! Messages of the session initiation protocol (RFC 3261 sections 7, 8, 18, 20 and 25.1, RFC 3581): what a datagram
-//! says. Reading is pinned on every text: a message is found exactly where the bytes are one, and a refusal names the
-//! first fault. Nothing here knows of writing, sockets, time, transactions or users.
+//! says. Reading is specified for every text: a message is found exactly if the bytes are one, and a refusal names
+//! the first fault. Nothing here knows of writing, sockets, time, transactions or users.
 #![tactic(auto)]
 
 mod answerable_parts;

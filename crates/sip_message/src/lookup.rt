@@ -1,4 +1,4 @@
-//! Header fields of which one may stand at most.
+//! Header fields that may occur at most once.
 
 ghost use Rattle.std.specs.Prelude.{◌≡◌, Ok, Err, IfOk, IfErr};
 ghost use Rattle.std.specs.Option.{option_copied};
@@ -10,7 +10,7 @@ use crate::header_names::HeaderName;
 use crate::seen::Seen;
 use header_fields::{FieldValue, Header};
 
-/// Header fields, and where those of which one may stand at most are among them.
+/// Header fields, and where those that may occur at most once are among them.
 #[derive(Drop)]
 pub(crate) struct Found<'m, 'a> {
     pub headers: &'m [Header<'a>],
@@ -81,7 +81,7 @@ impl<'m, 'a> Found<'m, 'a> {
     }
 }
 
-/// Finds the header fields of which one may stand at most, all in one pass. Takes no memory.
+/// Finds the header fields that may occur at most once, all in one pass. Takes no memory.
 pub(crate) fn found_in<'m, 'a>(headers: &'m [Header<'a>]) -> Found<'m, 'a>
     ensures headers { result.headers.now ≡ headers.now }
     ensures found { IsFound result }

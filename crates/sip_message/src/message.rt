@@ -10,8 +10,8 @@ use header_fields::Headers;
 use sip_uri::{NameAddr, Uri};
 use text::Text;
 
-/// What a response repeats of its request: the values of these header fields, and beside them the texts of From, To
-/// and CSeq as received, unfolded and trimmed (RFC 3261 section 8.2.6.2).
+/// What a response repeats of its request: the values of these header fields, and with them the texts of From, To and
+/// CSeq as received, unfolded and trimmed (RFC 3261 section 8.2.6.2).
 pub struct Parts<'a> {
     pub vias: Vias<'a>,
     pub from: NameAddr<'a>,
@@ -39,7 +39,7 @@ impl Drop for Parts<'_> {
     }
 }
 
-/// The parts of these values. With no way out it keeps the proofs of those that read or copy them short.
+/// The parts with these values. It has no error exit, which keeps the proofs of those that read or copy them short.
 pub fn parts_with<'a>(
     vias: Vias<'a>,
     ends: Ends<'a>,
@@ -61,12 +61,13 @@ pub fn parts_with<'a>(
     }
 }
 
-/// A request (RFC 3261 section 7.1). `headers` are all header fields in order but Content-Length, which the body says.
+/// A request (RFC 3261 section 7.1). `headers` are all header fields in order except Content-Length, which the body
+/// gives.
 pub struct Request<'a> {
     pub method: Text<'a>,
     pub uri: Uri<'a>,
     pub parts: Parts<'a>,
-    /// 0 to 255; 70 where there is no Max-Forwards.
+    /// 0 to 255; 70 if there is no Max-Forwards.
     pub max_forwards: u8,
     pub headers: Headers<'a>,
     pub body: Text<'a>,
@@ -86,7 +87,8 @@ impl Drop for Request<'_> {
     }
 }
 
-/// A response (RFC 3261 section 7.2). `headers` are all header fields in order but Content-Length, which the body says.
+/// A response (RFC 3261 section 7.2). `headers` are all header fields in order except Content-Length, which the body
+/// gives.
 pub struct Response<'a> {
     /// 100 to 699.
     pub status: u16,

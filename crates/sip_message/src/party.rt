@@ -48,7 +48,7 @@ pub fn has_tag(params: &[Param]) -> bool
     param_named(params, b"tag").is_some()
 }
 
-/// Whether a From with these parameters has the tag that it needs: in a request it needs one.
+/// Whether a From with these parameters has the tag that it needs: it needs one in a request.
 pub(crate) fn is_tagged_for(start: &Start<'_>, params: &[Param<'_>]) -> bool
     ensures { result ≡ is_tagged_for start.now params.now }
 {
@@ -77,7 +77,7 @@ fn party_in(alloc: Global, text: &[u8]) -> Result<Option<NameAddr<'_>>, AllocErr
     }
 }
 
-/// The name and URI, if the text is one and its tag, if any, has a value that is a token: lent where the text is.
+/// The name and URI, if the text is one and its tag, if any, has a value that is a token: lent if the text is.
 #[inline(always)]
 pub(crate) fn read_party<'a>(
     alloc: Global,

@@ -1,4 +1,4 @@
-//! Reading of messages.
+//! Reading messages.
 
 ghost use Rattle.std.specs.Prelude.{◌≡◌, ℕ, Ok, IfOk, IfErr};
 ghost use Rattle.std.specs.Option.{option_copied};
@@ -25,7 +25,7 @@ use text::Text;
 /// Bytes in a datagram.
 const MAX_DATAGRAM_BYTES: usize = 16_384;
 
-/// Header lines, lines that continue others included.
+/// Header lines, including continuation lines.
 const MAX_LINES: u32 = 128;
 
 /// Values and body of a message.
@@ -100,7 +100,7 @@ fn behind_start<'a>(
     Ok(message(start, headers, contents))
 }
 
-/// The first line, what stands behind its end, and whether it is clean.
+/// The first line, what comes after its end, and whether it is clean.
 fn start_line(bytes: &[u8]) -> (&[u8], Option<&[u8]>, bool)
     ensures line { result.0.now ≡ before_line_end bytes.now }
     ensures rest { option_copied result.1 ≡ after_line_end bytes.now }
@@ -128,8 +128,7 @@ fn read(alloc: Global, bytes: &[u8]) -> Result<Message<'_>, MessageError>
     behind_start(alloc, start, rest)
 }
 
-/// The message that a datagram is, of at most 16,384 bytes and at most 128 header lines, lines that continue others
-/// included.
+/// The message in a datagram, of at most 16,384 bytes and at most 128 header lines, including continuation lines.
 pub fn read_message(alloc: Global, bytes: &[u8]) -> Result<Message<'_>, MessageError>
     // What is read is the message that the bytes are, and they are within the limits.
     ensures found { IfOk result (λ m. (reads : ReadsMessage bytes.now m) × IsWithin bytes.now m reads) }
@@ -137,7 +136,7 @@ pub fn read_message(alloc: Global, bytes: &[u8]) -> Result<Message<'_>, MessageE
     ensures only { (m : Message) (reads : ReadsMessage bytes.now m) → IsWithin bytes.now m reads → Gives result (Ok m) }
     ensures refused { IfErr result (λ e. Refuses bytes.now e) }
     ensures exact { Gives result (message_of bytes.now) }
-    // Its header fields stand in the bytes in their order, none over another, and each says what stands at its place.
+    // Its header fields are in the bytes in their order, without overlap, and each says what is at its place.
     ensures placed { IfOk result (λ m. IsPlaced bytes.now (headers_in m)) }
     ensures repeatable { IfOk result (λ m. CanBeRepeated (parts_in m)) }
 {

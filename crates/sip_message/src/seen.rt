@@ -1,4 +1,4 @@
-//! What is there of a header field of which one may stand.
+//! What is there of a header field that may occur once.
 
 ghost use Rattle.std.specs.Prelude.{◌≡◌, length, Ok, Err, IfOk, IfErr};
 ghost use Rattle.std.specs.Option.{option_copied};
@@ -27,7 +27,7 @@ impl<'m, 'a> Seen<'m, 'a> {
         }
     }
 
-    /// With a header field behind, if it has this name. The length of the field's own name is asked for once, for all
+    /// Adds the next header field, if it has this name. The length of the field's own name is compared once for all
     /// names that it may have: most have another length.
     #[tactic(auto, using(crate::proofs::SeenLaws::other_length))]
     pub(crate) fn and_header(
@@ -45,7 +45,7 @@ impl<'m, 'a> Seen<'m, 'a> {
         self.and_value(&header.value)
     }
 
-    /// The value of a header field that stands once at most. Takes no memory.
+    /// The value of a header field that occurs at most once. Takes no memory.
     pub(crate) fn at_most_one(
         self,
         which: HeaderName,
@@ -60,7 +60,7 @@ impl<'m, 'a> Seen<'m, 'a> {
         }
     }
 
-    /// The value of a header field that stands once. Takes no memory.
+    /// The value of a header field that occurs once. Takes no memory.
     pub(crate) fn exactly_one(self, which: HeaderName) -> Result<&'m FieldValue<'a>, MessageError>
         ensures found { IfOk result (λ v. one_seen which (seen self.entry) ≡ Ok v.now) }
         ensures refused { IfErr result (λ e. one_seen which (seen self.entry) ≡ Err e) }

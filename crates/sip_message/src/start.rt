@@ -51,7 +51,7 @@ fn is_version(text: &[u8]) -> bool
     same_without_case(text, b"SIP/2.0")
 }
 
-/// Whether the text begins with `SIP/`, without case.
+/// Whether the text begins with `SIP/`, ignoring case.
 pub(crate) fn begins_sip(text: &[u8]) -> bool
     ensures { result ≡ begins_sip text.now }
 {
@@ -110,8 +110,7 @@ fn request_at<'a>(
     Ok(Start::Asking(RequestLine { method, uri }))
 }
 
-/// What a start line says: three parts with a single space between each two, of which a response's reason may have
-/// spaces.
+/// What a start line says: three parts, separated by single spaces; a response's reason may itself have spaces.
 #[tactic(auto, unfolding(crate::specs::Start::start_of))]
 pub(crate) fn read_start(alloc: Global, line: &[u8]) -> Result<Start<'_>, MessageError>
     ensures { Gives result (start_of line.now) }

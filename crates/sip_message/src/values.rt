@@ -21,7 +21,7 @@ use header_fields::Header;
 use std::alloc::Global;
 use text::Text;
 
-/// The values of a message's header fields, but for its body's length.
+/// The values of a message's header fields, except its body's length.
 #[derive(Drop)]
 pub(crate) struct Values<'a> {
     pub parts: Parts<'a>,

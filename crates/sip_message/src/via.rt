@@ -116,14 +116,14 @@ fn port_text(text: Option<&[u8]>) -> Option<&[u8]>
     }
 }
 
-/// What stands behind `SIP/2.0/UDP` and a space, as which nearly every Via begins.
+/// What comes after `SIP/2.0/UDP` and a space, with which nearly every Via begins.
 fn behind_usual(text: &[u8]) -> Option<&[u8]>
     ensures { IfSome result (λ behind. text.now ≡ codes "SIP/2.0/UDP " ++ behind.now) }
 {
     text.strip_prefix(b"SIP/2.0/UDP ")
 }
 
-/// The parts of a Via with this behind its usual beginning, and where host and port stand.
+/// The parts of a Via with this after its usual beginning, and where host and port are.
 #[tactic(auto, unfolding(crate::specs::Via::raw_via_of))]
 fn usual_via(behind: &[u8]) -> (ViaText<'_>, &[u8])
     ensures { result.0 ≡ raw_via_of (codes "SIP/2.0/UDP " ++ behind.now) }
@@ -141,7 +141,7 @@ fn usual_via(behind: &[u8]) -> (ViaText<'_>, &[u8])
     (parts, trim_blanks(sent_by))
 }
 
-/// The parts, and where host and port stand.
+/// The parts, and where host and port are.
 #[tactic(auto, unfolding(crate::specs::Via::raw_via_of))]
 fn via_text(text: &[u8]) -> (ViaText<'_>, &[u8])
     ensures { result.0 ≡ raw_via_of text.now }
@@ -171,7 +171,7 @@ fn is_port(text: &[u8]) -> bool
     is_run_of_digits(text) && number_upto(65535, text).unwrap_or(0) > 0
 }
 
-/// Whether protocol and port are of their form.
+/// Whether protocol and port are well formed.
 #[tactic(auto, unfolding(crate::specs::Via::is_raw_via))]
 fn is_well_formed(via: &ViaText<'_>) -> bool
     ensures { result ≡ is_raw_via via.now }
@@ -199,7 +199,7 @@ fn is_joined(bytes: &[u8], host: &[u8], port: &[u8]) -> bool
     are_same(front, host) && are_same(behind, port)
 }
 
-/// Host and port without blanks: lent where they stand so in these bytes.
+/// Host and port without blanks: lent if these bytes have them in that form.
 fn sent_by<'a>(
     alloc: Global,
     bytes: &'a [u8],
@@ -254,7 +254,7 @@ pub(crate) fn read_via(alloc: Global, text: &[u8]) -> Result<Option<Via<'_>>, Al
     }))
 }
 
-/// Puts the values of a text behind those that are there, and tells whether each could be read.
+/// Appends the values of a text, and returns whether each could be read.
 fn put_lent<'a>(alloc: Global, vias: &mut Vec<Via<'a>>, text: &'a [u8]) -> Result<bool, AllocError>
     ensures { IfOk result (λ all. put_before vias.old.items (each_via (pieces 44 Nothing text.now)) ≡ (if all then Some vias.new.items else None)) }
 {
@@ -271,7 +271,7 @@ fn put_lent<'a>(alloc: Global, vias: &mut Vec<Via<'a>>, text: &'a [u8]) -> Resul
     Ok(true)
 }
 
-/// Puts these values, which borrow nothing, behind those that are there.
+/// Appends these values, which borrow nothing.
 fn put_kept<'a>(alloc: Global, vias: &mut Vec<Via<'a>>, more: &[Via<'_>]) -> Result<(), AllocError>
     ensures { OnOk result (vias.new.items ≡ vias.old.items ++ more.now) }
 {
@@ -281,7 +281,7 @@ fn put_kept<'a>(alloc: Global, vias: &mut Vec<Via<'a>>, more: &[Via<'_>]) -> Res
     Ok(())
 }
 
-/// Puts the values of a header field behind those that are there, and tells whether each could be read.
+/// Appends the values of a header field, and returns whether each could be read.
 fn put_vias<'a>(
     alloc: Global,
     vias: &mut Vec<Via<'a>>,
@@ -322,7 +322,7 @@ pub(crate) fn read_each<'a>(
     Ok(Some(vias))
 }
 
-/// The Via values, the top one first: one at least.
+/// The Via values, the top one first: at least one.
 #[tactic(auto, using(crate::proofs::ViaLaws::none_there, crate::proofs::ViaLaws::some_unreadable, crate::proofs::ViaLaws::some_there))]
 pub(crate) fn read_vias<'a>(alloc: Global, headers: &[Header<'a>]) -> Result<Vias<'a>, MessageError>
     ensures { Gives result (some_vias (via_texts headers.now)) }

@@ -1,4 +1,4 @@
-//! Words on messages that the crates above share.
+//! Message vocabulary that the crates above share.
 
 ghost use Rattle.std.specs.Prelude.{◌≡◌, ◌++◌, ◌∷◌, IfOk};
 ghost use Rattle.std.specs.List.{list_all};
@@ -19,7 +19,7 @@ pub enum Class {
     Provisional,
     /// 200 to 299.
     Success,
-    /// 300 and above: a final response that is no success.
+    /// 300 and above: a final response that is not a success.
     Failure,
 }
 
@@ -45,7 +45,7 @@ fn param_value<'m, 'a>(params: &'m [Param<'a>], name: &[u8]) -> Option<&'m Text<
     }
 }
 
-/// The branch of the top Via, where it has one (RFC 3261 section 8.1.1.7). Takes no memory.
+/// The branch of the top Via, if it has one (RFC 3261 section 8.1.1.7). Takes no memory.
 pub fn top_branch<'m, 'a>(vias: &'m Vias<'a>) -> Option<&'m Text<'a>>
     ensures branch { option_copied result ≡ top_branch vias.now }
 {
@@ -55,15 +55,15 @@ pub fn top_branch<'m, 'a>(vias: &'m Vias<'a>) -> Option<&'m Text<'a>>
     }
 }
 
-/// The tag of a From or To with these parameters, where it has one (RFC 3261 section 19.3). Takes no memory.
+/// The tag of a From or To with these parameters, if it has one (RFC 3261 section 19.3). Takes no memory.
 pub fn tag_value<'m, 'a>(params: &'m [Param<'a>]) -> Option<&'m Text<'a>>
     ensures tag { option_copied result ≡ tag_value params.now }
 {
     param_value(params, b"tag")
 }
 
-/// The tag of a From or To with these parameters, as a text that is empty where there is none (RFC 3261 section
-/// 12.1.1). Takes no memory.
+/// The tag of a From or To with these parameters, as a text that is empty if there is none (RFC 3261 section 12.1.1).
+/// Takes no memory.
 pub fn tag_text<'m>(params: &'m [Param<'_>]) -> &'m [u8]
     ensures tag { result.now ≡ tag_text params.now }
 {
@@ -87,7 +87,7 @@ fn is_range_byte(b: u8) -> bool
     b > b'Z' || (b' ' < b && b < b'A')
 }
 
-/// Whether a media range is given as it stands, as most are written.
+/// Whether a media range is already in its final form, as most are.
 fn is_lower_range(text: &[u8]) -> bool
     ensures { result ≡ list_all is_range_byte text.now }
 {
@@ -120,8 +120,8 @@ fn media_range(alloc: Global, text: &[u8]) -> Result<Text<'static>, AllocError>
     )
 }
 
-/// What the body is, as Content-Type says it: `type/subtype` in lower case, without its parameters, where that header
-/// field stands (RFC 3261 sections 7.4.1 and 20.15).
+/// What the body is according to Content-Type: `type/subtype` in lower case, without its parameters, if that header
+/// field is present (RFC 3261 sections 7.4.1 and 20.15).
 pub fn content_type(
     alloc: Global,
     headers: &[Header<'_>],

@@ -131,7 +131,7 @@ end_again (b ∷ bs) = step (is_blank b) (eqb (length (without_end bs)) 0) refl 
   step true false blank none more = rw (more, blank, none) refl
   step false f blank none more = rw (more, blank) refl
 
--- a text whose blanks at the front are gone begins with none, also without those at its end
+-- a text whose leading blanks are gone begins with none, even without those at its end
 end_keeps : (b : ℕ) (bs : List ℕ) → is_blank b ≡ false → without_blanks (without_end (b ∷ bs)) ≡ without_end (b ∷ bs)
 end_keeps b bs h = rw h (rw h refl)
 

@@ -1,4 +1,4 @@
--- Texts that leave no quotation mark and no angle bracket open, wherever they stand.
+-- Texts that leave no quotation mark and no angle bracket open, wherever they are.
 use Rattle.std.proofs.Common.{◌≡◌, ℕ, Bool, true, false, not, ◌&&◌, ◌||◌, cond, eqb, inl, inr, List, [], ◌∷◌, ◌++◌, length, Option, Some, None, refl, sym, ap, subst, ◌∙◌, append_assoc}
 use Rattle.std.specs.List.{list_all, onto_first}
 use Rattle.std.proofs.lemmas.Bool.{and_parts, or_cases, eqb-true}
@@ -16,7 +16,7 @@ use Rattle.sip_uri.specs.FieldParams.{is_bracket_byte, is_there_and_empty, is_br
 use Rattle.sip_uri.proofs.BlankLaws.{lead_of, trail_of}
 use Rattle.sip_uri.proofs.QuotedLaws.{quoted_is}
 
--- a byte that stands between parts: none that a token, a host or blanks have, and none that begins or ends a quoted
+-- a byte that is between parts: none that a token, a host or blanks have, and none that begins or ends a quoted
 -- string
 pub record Separates (c : ℕ) : Type 0 where
   pub token : is_token_byte c ≡ false
@@ -33,7 +33,7 @@ semicolon = record { token = refl; bracket = refl; blank = refl; quote = refl; o
 pub comma : Separates 44
 comma = record { token = refl; bracket = refl; blank = refl; quote = refl; opening = refl; closing = refl; equals = refl }
 
--- the text is in one piece, and what stands behind it is cut as if it stood alone
+-- the text is in one piece, and what comes after it is cut as if it were alone
 abbrev pub IsClosed : ℕ → List ℕ → Type 0
 IsClosed c t = (rest : List ℕ) → pieces c Nothing (t ++ rest) ≡ with_front t (pieces c Nothing rest)
 
@@ -132,7 +132,7 @@ module _ (c : ℕ) (s : Separates c) where
   pub equals_closed : (t : List ℕ) → IsClosed c t → IsClosed c (61 ∷ t)
   equals_closed t h = closed_append c (61 ∷ []) t (closed_plain c (61 ∷ []) (s.equals, tt) (refl, tt) (refl, tt)) h
 
-  -- ---- pieces as they stand, with blanks
+  -- ---- pieces as they are, with blanks
 
   blanks_closed : (t : List ℕ) → list_all is_blank t ≡ true → IsClosed c t
   blanks_closed t h = closed_class c is_blank s.blank refl refl t h

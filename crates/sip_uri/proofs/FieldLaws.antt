@@ -59,7 +59,7 @@ piece_read front text piece behind cuts good = more behind ∙ ap (resumed front
   more None = rw good refl
   more (Some rest) = ap (resumed (front ++ field_param_of piece ∷ [])) (read_is rest) ∙ joined (pieces 59 Nothing rest)
 
--- less is left behind a piece
+-- less is left after a piece
 pub left_shrinks : (behind : Option (Bor (List ℕ))) (text : List ℕ) → IfSome behind (λ rest. length rest.now < length text) → left_length (option_copied behind) < left_length (Some text)
 left_shrinks None text h = omega arith
 left_shrinks (Some rest) text h = omega (arith, h)

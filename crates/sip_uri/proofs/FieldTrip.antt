@@ -83,7 +83,7 @@ all_fit : (ps : List Param) → AllByRecursion IsFieldParam ps → list_all is_f
 all_fit [] h = refl
 all_fit (p ∷ ps) h = and_from _ _ (param_fits p h.0) (all_fit ps h.1)
 
--- the text of parameters behind its semicolon
+-- the text of parameters after its semicolon
 abbrev pub written : List Param → Option (List ℕ)
 written [] = None
 written (p ∷ ps) = Some (param_text p ++ params_text 59 59 ps)

@@ -1,4 +1,4 @@
--- A host with nothing behind it.
+-- A host with nothing after it.
 use Rattle.std.proofs.Common.{◌≡◌, ℕ, Bool, true, ◌||◌, ltb, List, Option, None, refl}
 use Rattle.std.specs.List.{list_all}
 use Rattle.text.proofs.CutLaws.{Lacks-from_class, before_none, after_none}
@@ -7,7 +7,7 @@ use Rattle.sip_uri.specs.RawUri.{parts_from}
 abbrev is_no_mark : ℕ → Bool
 is_no_mark b = ltb b 58 || ltb 63 b
 
--- where no byte begins a port, parameters or headers, all is the host
+-- if no byte begins a port, parameters or headers, all is the host
 pub host_alone : (user : Option (List ℕ)) (text : List ℕ) → list_all is_no_mark text ≡ true
     → parts_from user text ≡ record { user = user; host = text; port = None; params = None; headers = None }
 host_alone user text h =

@@ -66,7 +66,7 @@ opened_is display (b ∷ bs) r h =
     let p = passed (eqb b 60) (bracketed display bs) r h in
     (bs, ap (λ (x : ℕ). x ∷ bs) (eqb-true b 60 p.0), bracketed_is display bs r p.1)
 
--- ---- the three forms, behind the blanks at the front
+-- ---- the three forms, after the leading blanks
 
 quoted_form : (lead text : List ℕ) (r : RawName) → list_all is_blank lead ≡ true → quoted_name text ≡ Some r → IsQuotedName (lead ++ 34 ∷ text) r
 unfolding quoted_name

@@ -110,7 +110,7 @@ not_ok text e h n reads = clash n e (sym (name_is_read text n reads) ∙ h) wher
   clash : (n : NameAddr) (e : UriError) → ok n ≡ failed e → ⊥
   clash n e h = absurd cc
 
--- why the whole is not of its form
+-- why the whole is not well formed
 abbrev MayBeMalformed : List ℕ → RawName → Type 0
 MayBeMalformed text r = (Refuses r.uri Scheme → ⊥) × (FitsName text r → Refuses r.uri Malformed)
 

@@ -16,12 +16,12 @@ some_label bs = omega (arith, length-slice_split (λ b. eqb b 46) bs)
 abbrev are_name : List (List ℕ) → Bool
 are_name ls = list_all is_label ls && begins_with is_ascii_alphabetic (top_label [] ls)
 
--- the labels behind one that begins with a letter or not
+-- the labels after one that begins with a letter or not
 abbrev end_name : Bool → List (List ℕ) → Bool
 end_name letter [] = letter
 end_name letter (l ∷ ls) = are_name (l ∷ ls)
 
--- the same, where the first label stands behind this byte of its own
+-- the same, if the first label comes after this byte of its own
 abbrev end_inside : ℕ → Bool → List (List ℕ) → Bool
 end_inside last letter [] = false
 end_inside last letter (l ∷ ls) = (list_all is_label_byte l && ends_with is_ascii_alphanumeric (last ∷ l)) && end_name letter ls

@@ -78,7 +78,7 @@ worded_again text r h lacks =
       phrase_again : (t : List ℕ) → phrase_of (without_blanks t) ≡ phrase_of t
       phrase_again t = let same : trimmed (without_blanks t) ≡ trimmed t = ap without_end (skipped_again t) in rw same refl
 
--- ---- a URI as it stands
+-- ---- a URI as it is
 
 from_bare : (front : List ℕ) (o : Option (List ℕ)) → Lacks 34 front → Lacks 59 front → Lacks 60 front → name_from (front ++ led_by 59 o) ≡ Some (bare (front ++ led_by 59 o))
 unfolding name_from

@@ -1,4 +1,4 @@
--- A name and an address with one more parameter behind its text reads as the same with that parameter behind its own.
+-- A name and an address with one more parameter after its text reads as the same with that parameter after its own.
 use Rattle.std.proofs.Common.{◌≡◌, ℕ, Bool, true, false, ◌&&◌, eqb, inl, inr, List, [], ◌∷◌, ◌++◌, map, Option, Some, None, refl, sym, ap, ◌∙◌, append_assoc}
 use Rattle.std.specs.Prelude.{IsTrue}
 use Rattle.std.specs.List.{list_all, flat_map, onto_first, AllByRecursion}
@@ -19,7 +19,7 @@ use Rattle.sip_uri.specs.Writing.{param_text}
 use Rattle.sip_uri.proofs.Closed.{semicolon, IsClosed, piece_closed}
 use Rattle.sip_uri.proofs.FieldTrip.{IsFieldParam, param_again, param_fits, param_closed}
 
--- ---- the pieces of a text with one more behind it
+-- ---- the pieces of a text with one more after it
 
 -- pieces with semicolons in front of each
 abbrev led : List (List ℕ) → List ℕ
@@ -54,7 +54,7 @@ all_closed : (ps : List (List ℕ)) → list_all is_field_param ps ≡ true → 
 all_closed [] h = tt
 all_closed (p ∷ ps) h = let parts = and_parts (is_field_param p) (list_all is_field_param ps) h in (piece_closed 59 semicolon p parts.0, all_closed ps parts.1)
 
--- parameters that were read, with a semicolon and more behind them
+-- parameters that were read, with a semicolon and more after them
 pieces_behind : (t rest : List ℕ) → list_all is_field_param (pieces 59 Nothing t) ≡ true → pieces 59 Nothing (t ++ 59 ∷ rest) ≡ pieces 59 Nothing t ++ pieces 59 Nothing rest
 pieces_behind t rest h =
     let p = pieces_of Nothing t in

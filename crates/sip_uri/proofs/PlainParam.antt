@@ -87,7 +87,7 @@ read_plain name value tokens some run =
     let plain : list_all is_plain (name ++ 61 ∷ value) ≡ true = list_all-append is_plain name (61 ∷ value) ∙ and_from _ _ (plain_tokens name tokens) (plain_tokens value parts.1) in
     rw (one_piece (name ++ 61 ∷ value) plain, front, behind, not_trimmed name tokens, not_trimmed value parts.1, some, tokens, parts.0, parts.1) refl
 
--- behind one token byte or more there is `=`, and a token is all of the rest
+-- after one or more token bytes there is `=`, and all of the rest is a token
 pub plain_there : (text : List ℕ) (at : ℕ) → position is_out text ≡ Some at → 0 < at → get_or text at 0 ≡ 61 → is_run_of is_token_byte (take (length text - (at + 1)) (drop (at + 1) text)) ≡ true
     → field_params_read (Some text) ≡ Some (two_tokens (take at text) (take (length text - (at + 1)) (drop (at + 1) text)) ∷ [])
 plain_there text at h some equals run =

@@ -79,7 +79,7 @@ port_lacks c out apart o h = Lacks-led_by c 58 apart o (is_run_of is_ascii_digit
 abbrev behind_user : RawUri → List ℕ
 behind_user r = r.host ++ (led_by 58 r.port ++ (led_by 59 r.params ++ led_by 63 r.headers))
 
--- a byte that no part behind the user has
+-- a byte that no part after the user has
 pub record Foreign (c : ℕ) : Type 0 where
   pub label : is_label_byte c ≡ false
   pub digit : is_ascii_digit c ≡ false

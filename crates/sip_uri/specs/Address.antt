@@ -5,7 +5,7 @@ use Rattle.sip_uri.specs.declared.uri.Host.{Host}
 use Rattle.sip_uri.specs.declared.uri.Host.TheVariants.{Ip4, Name}
 use Rattle.sip_uri.specs.declared.uri.Uri.{Uri}
 
--- the port where none is written
+-- the port if none is written
 abbrev pub default_port : ℕ
 default_port = 5060
 

@@ -15,18 +15,18 @@ same_text (Some a) (Some b) = pointwise nat_eq a b
 same_text None (Some b) = false
 same_text (Some a) None = false
 
--- the same octets, or the same name without case
+-- the same octets, or the same name ignoring case
 abbrev pub same_host : Host → Host → Bool
 same_host (Ip4 a) (Ip4 b) = pointwise nat_eq a b
 same_host (Name a) (Name b) = str_eq_ignore_ascii_case a b
 same_host (Ip4 a) (Name b) = false
 same_host (Name a) (Ip4 b) = false
 
--- the first parameter of this name, without case
+-- the first parameter of this name, ignoring case
 abbrev pub param_named : List ℕ → List Param → Option Param
 param_named name ps = find (λ p. str_eq_ignore_ascii_case p.name name) ps
 
--- both without a value, or with the same one without case
+-- both without a value, or with the same one ignoring case
 abbrev pub same_value : Option (List ℕ) → Option (List ℕ) → Bool
 same_value None None = true
 same_value (Some a) (Some b) = str_eq_ignore_ascii_case a b
@@ -55,12 +55,12 @@ same_binding a b =
 
 -- ---- as equations
 
--- the host without case
+-- the host ignoring case
 abbrev pub host_key : Host → Host
 host_key (Ip4 octets) = Ip4 octets
 host_key (Name name) = Name (str_to_ascii_lowercase name)
 
--- the value without case, if there is one
+-- the value ignoring case, if there is one
 abbrev pub param_key : Param → Option (List ℕ)
 param_key p = option_map str_to_ascii_lowercase p.value
 

@@ -1,4 +1,4 @@
--- The bytes that may stand in each part of a URI (RFC 3261 section 25.1).
+-- The bytes that are allowed in each part of a URI (RFC 3261 section 25.1).
 use Rattle.std.specs.Prelude.{ℕ, Bool, ◌||◌, ◌==◌, codes}
 use Rattle.std.specs.Char.{is_ascii_alphanumeric}
 use Rattle.text.specs.Class.{is_one_of}

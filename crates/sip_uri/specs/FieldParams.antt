@@ -27,7 +27,7 @@ is_bracketed (b ∷ bs) = b == 91 && is_run_of is_bracket_byte (before 93 bs) &&
 unfoldable pub is_field_value : List ℕ → Bool
 is_field_value text = is_run_of is_token_byte text || is_quoted text || is_bracketed text
 
--- `name` or `name=value`, with blanks round each
+-- `name` or `name=value`, with blanks around each
 unfoldable pub is_field_param : List ℕ → Bool
 is_field_param piece = is_run_of is_token_byte (trimmed (before 61 piece)) && passes_if_there (λ v. is_field_value (trimmed v)) (after 61 piece)
 
@@ -46,7 +46,7 @@ unfoldable pub field_params_of : Option (List ℕ) → List Param
 field_params_of None = []
 field_params_of (Some text) = map field_param_of (pieces 59 Nothing text)
 
--- the parameters of a text of their form; none, where there is no text
+-- the parameters of a well-formed text; none if there is no text
 unfoldable pub field_params_read : Option (List ℕ) → Option (List Param)
 field_params_read None = Some []
 field_params_read (Some text) = if is_field_params text then Some (field_params_of (Some text)) else None

@@ -51,17 +51,17 @@ abbrev pub top_label : List ℕ → List (List ℕ) → List ℕ
 top_label label [] = label
 top_label label (next ∷ rest) = top_label next rest
 
--- labels with dots between them, the last of which begins with a letter; a dot may stand at the end
+-- labels with dots between them, the last of which begins with a letter; there may be a dot at the end
 unfoldable pub is_hostname : List ℕ → Bool
 is_hostname text =
     let labels = slice_split (λ b. b == 46) (without_dot text) in
     list_all is_label labels && begins_with is_ascii_alphabetic (top_label [] labels)
 
--- whether this byte may stand behind that one, where a dot stands in front of each label and behind it
+-- whether this byte may come after that one, with a dot before and after each label
 abbrev pub may_follow : ℕ → ℕ → Bool
 may_follow last b = if b == 46 then is_ascii_alphanumeric last else if last == 46 then is_ascii_alphanumeric b else is_label_byte b
 
--- what is left of such labels behind this byte, where the label that it stands in begins with a letter or not
+-- what may be left of such labels after this byte, given whether the label that it is in begins with a letter
 abbrev pub goes_on : ℕ → Bool → List ℕ → Bool
 goes_on last letter [] = letter && is_ascii_alphanumeric last
 goes_on last letter (b ∷ bs) = may_follow last b && goes_on b (if last == 46 then is_ascii_alphabetic b else letter) bs

@@ -1,4 +1,4 @@
--- What a name and an address say, and the first fault of a text that is none.
+-- What a name and an address say, and the first fault of a text that is not one.
 use Rattle.std.specs.Prelude.{◌≡◌, ℕ, true, false, List, [], ◌∷◌, ◌++◌, Option, Some, None, ◌⊎◌, Result, Ok, Err, IsTrue, if◌then◌else◌}
 use Rattle.std.specs.List.{list_all}
 use Rattle.text.specs.Class.{is_blank, passes_if_there}
@@ -18,11 +18,11 @@ use Rattle.sip_uri.specs.Writing.{uri_text, params_text}
 
 -- ---- as a function
 
--- the header's parameters, where the whole is of its form but for the URI
+-- the header's parameters, if the whole is well formed except for the URI
 unfoldable pub name_params : RawName → Option (List Param)
 name_params r = if stands_well r then field_params_read r.params else None
 
--- another scheme goes before the form of the whole, and that before the URI's other faults
+-- another scheme takes precedence over the form of the whole, and that over the URI's other faults
 abbrev pub judged : RawName → Option (List Param) → Result Uri UriError → Result NameAddr UriError
 judged r ps (Err Scheme) = Err Scheme
 judged r ps (Err OutOfMemory) = Err OutOfMemory
@@ -43,7 +43,7 @@ name_addr_of text = name_addr_from (name_of text)
 
 -- ---- as a relation
 
--- behind the closing angle bracket: blanks, and parameters behind a semicolon
+-- after the closing angle bracket: blanks, and parameters after a semicolon
 pub record Closes (rest : List ℕ) (params : Option (List ℕ)) : Type 0 where
   pub gap : List ℕ
   pub blank : IsTrue (list_all is_blank gap)
@@ -85,7 +85,7 @@ pub record IsBareName (text : List ℕ) (raw : RawName) : Type 0 where
 abbrev pub SpellsName : List ℕ → RawName → Type 0
 SpellsName text raw = IsQuotedName text raw ⊎ (IsWordedName text raw ⊎ IsBareName text raw)
 
--- the text has these parts, and the whole is of its form but for the URI
+-- the text has these parts, and the whole is well formed except for the URI
 pub record FitsName (text : List ℕ) (raw : RawName) : Type 0 where
   pub spelled : SpellsName text raw
   pub stands : IsTrue (stands_well raw)
@@ -99,8 +99,8 @@ pub record ReadsNameAddr (text : List ℕ) (name : NameAddr) : Type 0 where
   pub display : name.display ≡ raw.display
   pub params : name.params ≡ field_params_of raw.params
 
--- the text has this fault, and none before it: of the parts that it is cut into, another scheme goes before the form of
--- the whole, and that before the URI's other faults
+-- the text has this fault, and none before it: of the parts that it is cut into, another scheme takes precedence over
+-- the form of the whole, and that over the URI's other faults
 abbrev pub RefusesName : List ℕ → UriError → Type 0
 RefusesName text OutOfMemory = Unit {0}
 RefusesName text Scheme = (raw : RawName) × (name_of text ≡ Some raw) × SpellsName text raw × Refuses raw.uri Scheme

@@ -12,7 +12,7 @@ closing_quote escaped [] = None
 closing_quote escaped (b ∷ bs) =
     if b == 34 && not escaped then Some 0 else plus 1 (closing_quote (not escaped && b == 92) bs)
 
--- the text up to it, as written, and what stands behind it
+-- the text up to it, as written, and what comes after it
 unfoldable pub quoted : List ℕ → Option (List ℕ × List ℕ)
 quoted text = option_map (λ n. (take n text, drop (n + 1) text)) (closing_quote false text)
 
@@ -28,12 +28,12 @@ abbrev pub may_stand : Bool → ℕ → Bool
 may_stand true b = is_pair_byte b
 may_stand false b = is_quoted_byte b || b == 92
 
--- what may stand between quotation marks, behind a backslash or not
+-- what is allowed between quotation marks, after a backslash or not
 abbrev pub fits_quotes : Bool → List ℕ → Bool
 fits_quotes escaped [] = not escaped
 fits_quotes escaped (b ∷ bs) = may_stand escaped b && fits_quotes (not escaped && b == 92) bs
 
--- a quotation mark, what may stand behind it, and another at the end
+-- a quotation mark, what is allowed after it, and another at the end
 abbrev pub ends_quoted : Option (List ℕ × List ℕ) → Bool
 ends_quoted None = false
 ends_quoted (Some x) = fits_quotes false x.0 && length x.1 == 0

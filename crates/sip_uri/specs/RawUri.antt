@@ -1,4 +1,4 @@
--- The text of a URI behind its scheme, in parts.
+-- The text of a URI after its scheme, in parts.
 use Rattle.std.specs.Prelude.{ℕ, Bool, true, false, not, ◌&&◌, ◌||◌, ◌==◌, nat_lt, List, [], ◌∷◌, ◌++◌, Option, Some, None, is_some, unwrap_or, if◌then◌else◌}
 use Rattle.std.specs.List.{list_all, slice_split}
 use Rattle.std.specs.Char.{is_ascii_digit, is_ascii_hexdigit}
@@ -24,14 +24,14 @@ user_text (Some user) = user ++ 64 ∷ []
 abbrev pub raw_text : RawUri → List ℕ
 raw_text r = user_text r.user ++ (r.host ++ (led_by 58 r.port ++ (led_by 59 r.params ++ led_by 63 r.headers)))
 
--- behind the user
+-- after the user
 abbrev pub parts_from : Option (List ℕ) → List ℕ → RawUri
 parts_from user rest =
     let front = before 63 rest in
     let place = before 59 front in
     record { user = user; host = before 58 place; port = after 58 place; params = after 59 front; headers = after 63 rest }
 
--- the parts of a text: each ends where the byte that begins the next one first stands
+-- the parts of a text: each ends at the first byte that begins the next one
 unfoldable pub raw_of : List ℕ → RawUri
 raw_of text = parts_from (if is_some (after 64 text) then Some (before 64 text) else None) (unwrap_or (after 64 text) text)
 
@@ -51,7 +51,7 @@ is_header text = is_run_of is_header_byte (before 61 text) && is_some (after 61 
 abbrev pub is_headers : List ℕ → Bool
 is_headers text = list_all is_header (slice_split (λ b. b == 38) text)
 
--- each part is of its form, but for escapes and the port's number
+-- each part is well formed, except for escapes and the port's number
 unfoldable pub is_raw : RawUri → Bool
 is_raw r = passes_if_there (is_run_of is_user_byte) r.user
     && is_host r.host
@@ -59,7 +59,7 @@ is_raw r = passes_if_there (is_run_of is_user_byte) r.user
     && passes_if_there is_params r.params
     && passes_if_there is_headers r.headers
 
--- each `%` has two hexadecimal digits behind it
+-- each `%` is followed by two hexadecimal digits
 abbrev pub escapes_well : List ℕ → Bool
 escapes_well [] = true
 escapes_well (b ∷ bs) = (not (b == 37) || begins_with_two_digits bs) && escapes_well bs where

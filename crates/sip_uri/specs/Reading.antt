@@ -18,7 +18,7 @@ use Rattle.sip_uri.specs.RawUri.{RawUri, raw_of, is_raw, has_good_escapes, has_g
 abbrev pub is_plain : List ℕ → Bool
 is_plain text = list_all (λ b. not (b == 37)) text
 
--- A call gave what reading gives, unless memory ran out.
+-- A call returned what reading gives, unless memory ran out.
 abbrev pub Gives : {X : Type 0} → Result X UriError → Result X UriError → Type 0
 Gives (Ok x) read = read ≡ Ok x
 Gives (Err OutOfMemory) read = Unit {0}
@@ -40,7 +40,7 @@ host_read text = if is_host text then Some (host_of text) else None
 abbrev pub param_of : List ℕ → Param
 param_of text = record { name = before 61 text; value = after 61 text }
 
--- the parameters of a part whose pieces stand between bytes c
+-- the parameters of a part whose pieces are between bytes c
 abbrev pub fields_of : ℕ → Option (List ℕ) → List Param
 fields_of c None = []
 fields_of c (Some text) = map param_of (slice_split (λ b. b == c) text)
@@ -55,7 +55,7 @@ value_of r = record {
   headers = fields_of 38 r.headers;
 }
 
--- the scheme, without case
+-- the scheme, ignoring case
 unfoldable pub is_sip : List ℕ → Bool
 is_sip text = str_eq_ignore_ascii_case (take 4 text) (codes "sip:")
 

@@ -9,7 +9,7 @@ use Rattle.sip_uri.specs.declared.uri.Host.TheVariants.{Ip4, Name}
 use Rattle.text.specs.Cut.{led_by}
 use Rattle.sip_uri.specs.Classes.{is_plain_user}
 
--- what stood before is left, and a part may be written behind it
+-- what was there before is kept, and a part may be written after it
 abbrev pub BeginsWith : List ℕ → List ℕ → Type 0
 BeginsWith old new = (more : List ℕ) × (new ≡ old ++ more)
 
@@ -31,7 +31,7 @@ host_text (Name name) = name
 abbrev pub param_text : Param → List ℕ
 param_text p = p.name ++ led_by 61 p.value
 
--- parameters, the first behind one byte and each other behind another
+-- parameters, the first after one byte and each other after another
 abbrev pub params_text : ℕ → ℕ → List Param → List ℕ
 params_text first next [] = []
 params_text first next (p ∷ ps) = first ∷ param_text p ++ params_text next next ps

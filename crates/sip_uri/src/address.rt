@@ -8,15 +8,15 @@ use crate::uri::{Addr, Host, Uri};
 /// The port of a SIP URI, and of a sent-by, that names none.
 const DEFAULT_PORT: u16 = 5060;
 
-/// The port that is written, or 5060 where none is. Takes no memory.
+/// The port that is written, or 5060 if none is. Takes no memory.
 pub fn port_or_default(port: Option<u16>) -> u16
     ensures port { result ≡ unwrap_or port default_port }
 {
     port.unwrap_or(DEFAULT_PORT)
 }
 
-/// Where a request to this URI goes: to the address of its host and to its port, 5060 where it names none. None where
-/// its host is a name. Takes no memory.
+/// Where a request to this URI goes: to the address of its host and to its port, 5060 if it names none. None if its
+/// host is a name. Takes no memory.
 pub fn address_of(uri: &Uri<'_>) -> Option<Addr>
     ensures address { result ≡ address_of uri.now }
 {

@@ -3,7 +3,7 @@
 ghost use Rattle.std.specs.Prelude.{◌≡◌};
 ghost use Rattle.sip_uri.specs.Classes.{is_plain_user, is_user_byte, is_label_byte, is_param_byte, is_header_byte};
 
-/// Each byte that a user has without an escape stands at its own place, and a bar at every other place.
+/// Each byte that needs no escape in a user is at its own place, and a bar is at every other place.
 static PLAIN_USER_BYTES: [u8; 256] = *b"\
     ||||||||||||||||||||||||||||||||\
     |!||$|&'()*+,-./0123456789:;|=|?\
@@ -14,7 +14,7 @@ static PLAIN_USER_BYTES: [u8; 256] = *b"\
     ||||||||||||||||||||||||||||||||\
     ||||||||||||||||||||||||||||||||";
 
-/// Each byte of a host name's label stands at its own place, and a bar at every other place.
+/// Each byte of a host name's label is at its own place, and a bar is at every other place.
 static LABEL_BYTES: [u8; 256] = *b"\
     ||||||||||||||||||||||||||||||||\
     |||||||||||||-||0123456789||||||\
@@ -25,7 +25,7 @@ static LABEL_BYTES: [u8; 256] = *b"\
     ||||||||||||||||||||||||||||||||\
     ||||||||||||||||||||||||||||||||";
 
-/// Each byte of a parameter stands at its own place, and a bar at every other place.
+/// Each byte of a parameter is at its own place, and a bar is at every other place.
 static PARAM_BYTES: [u8; 256] = *b"\
     ||||||||||||||||||||||||||||||||\
     |!||$%&'()*+|-./0123456789:|||||\
@@ -36,7 +36,7 @@ static PARAM_BYTES: [u8; 256] = *b"\
     ||||||||||||||||||||||||||||||||\
     ||||||||||||||||||||||||||||||||";
 
-/// Each byte of a header stands at its own place, and a bar at every other place.
+/// Each byte of a header is at its own place, and a bar is at every other place.
 static HEADER_BYTES: [u8; 256] = *b"\
     ||||||||||||||||||||||||||||||||\
     |!||$%|'()*+|-./0123456789:||||?\

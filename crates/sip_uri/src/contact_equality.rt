@@ -8,7 +8,7 @@ ghost use Rattle.sip_uri.specs.Binding.{same_text, same_host, param_named, same_
 use crate::uri::{Host, Param, Uri};
 use text::Text;
 
-/// Whether two texts are one, byte for byte, or neither is there.
+/// Whether two texts are the same, byte for byte, or both are missing.
 pub fn same_text(a: Option<&Text>, b: Option<&Text>) -> bool
     ensures test { result ≡ same_text (option_copied a.entry) (option_copied b.entry) }
     ensures relation { IsTrue result ↔ (option_copied a.entry ≡ option_copied b.entry) }
@@ -27,7 +27,7 @@ fn same_without_case(a: &Text, b: &Text) -> bool
     text::same_without_case(a.as_bytes(), b.as_bytes())
 }
 
-/// Whether two hosts are one: four octets, or a name without case.
+/// Whether two hosts are the same: four octets, or a name ignoring case.
 pub fn same_host(a: &Host, b: &Host) -> bool
     ensures test { result ≡ same_host a.now b.now }
     ensures relation { IsTrue result ↔ (host_key a.now ≡ host_key b.now) }
@@ -39,7 +39,7 @@ pub fn same_host(a: &Host, b: &Host) -> bool
     }
 }
 
-/// The first parameter of this name, without case.
+/// The first parameter of this name, ignoring case.
 pub fn param_named<'m, 'a>(params: &'m [Param<'a>], name: &[u8]) -> Option<&'m Param<'a>>
     ensures { option_copied result ≡ param_named name.now params.now }
 {
@@ -70,9 +70,9 @@ fn same_param(a: &[Param], b: &[Param], name: &[u8]) -> bool
     }
 }
 
-/// Whether two contacts are one binding: user, host and port as written agree, the host without case, and the
-/// parameters `user`, `ttl`, `method`, `maddr` and `transport` are there alike and equal without case. Nothing else
-/// is looked at, which differs from RFC 3261 section 19.1.4 and makes this an equivalence.
+/// Whether two contacts are one binding: user, host and port as written agree, the host ignoring case. The parameters
+/// `user`, `ttl`, `method`, `maddr` and `transport` are each missing in both, or equal ignoring case. Nothing else is
+/// compared, which differs from RFC 3261 section 19.1.4 and makes this an equivalence.
 #[tactic(auto, unfolding(crate::specs::Binding::same_binding))]
 pub fn same_binding(a: &Uri, b: &Uri) -> bool
     ensures test { result ≡ same_binding a.now b.now }

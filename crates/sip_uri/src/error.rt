@@ -1,4 +1,4 @@
-//! Why a text is no URI.
+//! Why a text is not a URI.
 
 ghost use Rattle.std.specs.Prelude.{◌≡◌};
 ghost use Rattle.sip_uri.specs.declared.error.UriError.TheVariants.{OutOfMemory};
@@ -6,18 +6,19 @@ ghost use Rattle.sip_uri.specs.declared.error.UriError.TheVariants.{OutOfMemory}
 use std::alloc::{AllocError, AllocFailed};
 use thiserror::Error;
 
-/// Why a text is no URI (RFC 3261 section 25.1): the first fault in the order of the variants, or want of memory.
+/// Why a text is not a URI (RFC 3261 section 25.1): the first fault in the order of the variants, or a lack of
+/// memory.
 #[derive(Clone, Copy, Debug, Error)]
 pub enum UriError {
     #[error("out of memory")]
     OutOfMemory,
-    /// The text does not begin with `sip:`, without case.
+    /// The text does not begin with `sip:`, ignoring case.
     #[error("U1: other scheme")]
     Scheme,
-    /// The text has not the form of a URI, also where each `%` is let through.
+    /// The text does not have the form of a URI, even if every `%` is allowed.
     #[error("U2: malformed")]
     Malformed,
-    /// A `%` has not two hexadecimal digits behind it.
+    /// A `%` is not followed by two hexadecimal digits.
     #[error("U3: bad escape")]
     BadEscape,
     /// The port is 0 or above 65535.

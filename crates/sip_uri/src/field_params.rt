@@ -75,15 +75,15 @@ fn field_param(piece: &[u8]) -> Option<Param<'_>>
     })
 }
 
-/// Where the first byte stands that is in no token.
+/// The place of the first byte that is in no token.
 fn token_end(text: &[u8]) -> Option<usize>
     ensures { result ≡ position (λ b. not (is_token_byte b)) text.now }
 {
     text.iter().position(|b| !is_token_byte(*b))
 }
 
-/// The parameter that all of the text is, where it is a token, `=` and a token, as most are: then it has no separator
-/// and no blank, and is looked at once.
+/// The parameter that is the whole text, if it is a token, `=` and a token, as most are. It then has no separator and
+/// no blank, and is scanned once.
 fn plain_param(text: &[u8]) -> Option<Param<'_>>
     ensures { IfSome result (λ p. field_params_read (Some text.now) ≡ Some (p ∷ [])) }
 {
@@ -101,7 +101,7 @@ fn plain_param(text: &[u8]) -> Option<Param<'_>>
     })
 }
 
-/// The parameters of a text, if each piece of it is of its form.
+/// The parameters of a text, if each piece of it is well formed.
 fn field_params(alloc: Global, text: &[u8]) -> Result<Option<Params<'_>>, AllocError>
     ensures { IfOk result (λ o. o ≡ field_params_read (Some text.now)) }
 {
@@ -123,8 +123,8 @@ fn field_params(alloc: Global, text: &[u8]) -> Result<Option<Params<'_>>, AllocE
     Ok(Some(Params::from_vec(params)))
 }
 
-/// The parameters of a header field, each `name` or `name=value` with blanks round its parts and semicolons between
-/// them. `None` where the text has another form. A value in quotation marks keeps them.
+/// The parameters of a header field, each `name` or `name=value` with blanks around its parts and semicolons between
+/// them. `None` if the text has another form. A value in quotation marks keeps them.
 #[tactic(auto, unfolding(crate::specs::FieldParams::field_params_read))]
 pub fn read_field_params(
     alloc: Global,

@@ -40,7 +40,7 @@ fn without_dot(text: &[u8]) -> &[u8]
     if *last == b'.' { front } else { text }
 }
 
-/// Whether this byte may stand behind that one, where a dot stands in front of each label and behind it.
+/// Whether this byte may come after that one, with a dot before and after each label.
 fn may_follow(last: u8, b: u8) -> bool
     ensures { result ≡ may_follow last b }
 {

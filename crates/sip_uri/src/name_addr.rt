@@ -17,7 +17,7 @@ use crate::write::{put_params, put_uri};
 use std::alloc::{AllocError, Global};
 use text::{Text, lent};
 
-/// The header's parameters, where the whole is of its form but for the URI.
+/// The header's parameters, if the whole is well formed except for the URI.
 #[tactic(auto, unfolding(crate::specs::NameAddr::name_params))]
 fn name_params<'a>(alloc: Global, parts: &NameParts<'a>) -> Result<Option<Params<'a>>, AllocError>
     ensures { IfOk result (λ o. o ≡ name_params parts.now) }
@@ -51,12 +51,12 @@ fn read(alloc: Global, bytes: &[u8]) -> Result<NameAddr<'_>, UriError>
     })
 }
 
-/// The name and address that the bytes are: `"display" <uri>;params`, `display <uri>;params`, `<uri>;params` or
-/// `uri;params`, where the parameters are the header's. A display in quotation marks is given as written between them,
-/// one in tokens without the blanks at its ends.
+/// The name and address in the bytes: `"display" <uri>;params`, `display <uri>;params`, `<uri>;params` or
+/// `uri;params`, where the parameters are the header's. A display in quotation marks is returned as written between
+/// them, one made of tokens without the blanks at its ends.
 ///
-/// Another scheme of the URI is the first fault, where the outer form could be cut; then comes the form of the whole,
-/// then the URI's escapes and its port.
+/// Another scheme in the URI is the first fault, if the outer form could be split. Then come the form of the whole,
+/// the URI's escapes and its port.
 pub fn read_name_addr(alloc: Global, bytes: &[u8]) -> Result<NameAddr<'_>, UriError>
     // What is read is a name and an address with this value.
     ensures found { IfOk result (λ name. ReadsNameAddr bytes.now name) }
@@ -82,8 +82,8 @@ fn put_display(out: &mut Vec<u8>, display: Option<&Text>) -> Result<(), AllocErr
     Ok(())
 }
 
-/// Writes a display and a URI behind what is there: `"display" <uri>`, without the display where there is none. Where
-/// memory runs out, a part may be written there.
+/// Appends a display and a URI: `"display" <uri>`, without the display if there is none. If memory runs out, a part
+/// may be written.
 pub fn put_display_and_uri(
     out: &mut Vec<u8>,
     display: Option<&Text>,
@@ -99,8 +99,8 @@ pub fn put_display_and_uri(
     Ok(())
 }
 
-/// Writes a name and an address behind what is there: `"display" <uri>;name=value`, without the display where there is
-/// none. Where memory runs out, a part may be written there.
+/// Appends a name and an address: `"display" <uri>;name=value`, without the display if there is none. If memory runs
+/// out, a part may be written.
 #[tactic(auto, unfolding(crate::specs::NameAddr::name_addr_text))]
 pub fn put_name_addr(out: &mut Vec<u8>, name: &NameAddr) -> Result<(), AllocError>
     ensures ok { OnOk result (out.new.items ≡ out.old.items ++ name_addr_text name.now) }
@@ -118,7 +118,7 @@ fn write(alloc: Global, name: &NameAddr) -> Result<Text<'static>, AllocError>
     Ok(Text::from_vec(out))
 }
 
-/// The text of a name and an address: `"display" <uri>;name=value`, without the display where there is none.
+/// The text of a name and an address: `"display" <uri>;name=value`, without the display if there is none.
 pub fn write_name_addr(alloc: Global, name: &NameAddr) -> Result<Text<'static>, AllocError>
     // The text itself.
     ensures text { IfOk result (λ t. t ≡ name_addr_text name.now) }

@@ -11,8 +11,8 @@ use crate::quotes::{fits_quotes, quoted_text};
 use std::marker::Model;
 use text::{cut, is_blank, is_token_byte, trim_blanks, without_blanks};
 
-/// `"display" <uri>;params`, or the like: the display as it counts, the URI without blanks round it, what stands behind
-/// the semicolon.
+/// `"display" <uri>;params`, or the like: the display as it counts, the URI without blanks around it, and what comes
+/// after the semicolon.
 #[derive(Drop)]
 pub struct NameParts<'a> {
     pub display: Option<&'a [u8]>,
@@ -75,7 +75,7 @@ fn with_params<'a>(
     })
 }
 
-/// What stands behind the opening angle bracket.
+/// What comes after the opening angle bracket.
 #[tactic(auto, unfolding(crate::specs::NameParts::bracketed))]
 fn in_brackets<'a>(display: Option<&'a [u8]>, text: &'a [u8]) -> Option<NameParts<'a>>
     ensures { result ≡ bracketed (option_copied display.entry) text.now }
@@ -94,7 +94,7 @@ fn after_bracket<'a>(display: Option<&'a [u8]>, text: &'a [u8]) -> Option<NamePa
     }
 }
 
-/// What stands behind the quotation mark that opens a display.
+/// What comes after the quotation mark that opens a display.
 #[tactic(auto, unfolding(crate::specs::NameParts::quoted_name))]
 fn quoted_name(text: &[u8]) -> Option<NameParts<'_>>
     ensures { result ≡ quoted_name text.now }
@@ -157,7 +157,7 @@ fn name_from(text: &[u8]) -> Option<NameParts<'_>>
     }
 }
 
-/// The parts of a text, where its outer form can be cut.
+/// The parts of a text, if its outer form can be split.
 #[tactic(auto, unfolding(crate::specs::NameParts::name_of))]
 pub fn parts_of(text: &[u8]) -> Option<NameParts<'_>>
     ensures { result ≡ name_of text.now }
@@ -176,7 +176,7 @@ impl<'a> NameParts<'a> {
     ghost use Rattle.std.specs.Prelude.{◌≡◌};
     ghost use Rattle.sip_uri.specs.NameParts.{stands_well};
 
-    /// Whether the URI stands in angle brackets where it has to.
+    /// Whether the URI is in angle brackets if it has to be.
     #[tactic(auto, unfolding(crate::specs::NameParts::stands_well))]
     pub fn stands_well(&self) -> bool
         ensures { result ≡ stands_well self.now }

@@ -1,4 +1,4 @@
-//! The parts of a URI's text, behind its scheme (RFC 3261 section 25.1).
+//! The parts of a URI's text, after its scheme (RFC 3261 section 25.1).
 
 ghost use Rattle.std.specs.Prelude.{◌≡◌, ◌==◌, ◌||◌, nat_lt};
 ghost use Rattle.std.specs.List.{list_all, slice_split};
@@ -42,7 +42,7 @@ impl<'a> Parts<'a> {
     ghost use Rattle.sip_uri.specs.Hosts.{ip4_of};
     ghost use Rattle.sip_uri.specs.RawUri.{raw_of, is_raw, has_good_escapes, has_good_port};
 
-    /// The parts of a text: each ends where the byte that begins the next one first stands.
+    /// The parts of a text: each ends at the first byte that begins the next one.
     #[tactic(auto, unfolding(crate::specs::RawUri::raw_of))]
     pub fn of(text: &'a [u8]) -> Parts<'a>
         ensures { result ≡ raw_of text.now }
@@ -54,7 +54,7 @@ impl<'a> Parts<'a> {
         parts_from(user, rest)
     }
 
-    /// Whether each part is of its form, but for escapes and the port's number.
+    /// Whether each part is well formed, except for escapes and the port's number.
     #[tactic(auto, unfolding(crate::specs::RawUri::is_raw, crate::specs::Hosts::is_host))]
     pub fn is_well_formed(&self, has_address: bool) -> bool
         requires { has_address ≡ is_some (ip4_of self.now.host) }
@@ -87,22 +87,22 @@ impl<'a> Parts<'a> {
     }
 }
 
-/// Whether the byte begins no port, parameters or headers. `<`, `=` and `>` count with `:`, `;` and `?`, so that these
-/// are one range.
+/// Whether the byte does not begin a port, parameters or headers. `<`, `=` and `>` count like `:`, `;` and `?`, so
+/// that these are one range.
 fn is_no_mark(b: u8) -> bool
     ensures { result ≡ (nat_lt b 58 || nat_lt 63 b) }
 {
     b < b':' || b > b'?'
 }
 
-/// Whether the text is a host alone, as in most URIs: no port, parameters or headers stand behind it.
+/// Whether the text is only a host, as in most URIs: no port, parameters or headers come after it.
 fn has_no_mark(text: &[u8]) -> bool
     ensures { result ≡ list_all (λ b. nat_lt b 58 || nat_lt 63 b) text.now }
 {
     text.iter().all(|b| is_no_mark(*b))
 }
 
-/// The parts behind a user.
+/// The parts after a user.
 fn parts_from<'a>(user: Option<&'a [u8]>, rest: &'a [u8]) -> Parts<'a>
     ensures { result ≡ parts_from (option_copied user.entry) rest.now }
 {
@@ -187,7 +187,7 @@ fn is_headers(text: &[u8]) -> bool
     text.split(|b| *b == b'&').all(|p| is_header(p))
 }
 
-/// Whether each `%` has two hexadecimal digits behind it.
+/// Whether each `%` is followed by two hexadecimal digits.
 fn escapes_are_good(text: &[u8]) -> bool
     ensures { result ≡ escapes_well text.now }
 {

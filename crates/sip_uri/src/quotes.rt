@@ -18,7 +18,7 @@ fn closing_quote(text: &[u8]) -> Option<usize>
     None
 }
 
-/// The text up to the closing quotation mark, as written, and what stands behind it.
+/// The text up to the closing quotation mark, as written, and what comes after it.
 #[tactic(auto, unfolding(crate::specs::Quoted::quoted))]
 pub fn quoted_text(text: &[u8]) -> Option<(&[u8], &[u8])>
     ensures { option_map (λ x. (x.0.now, x.1.now)) result ≡ quoted text.now }
@@ -49,7 +49,7 @@ fn may_stand(escaped: bool, b: u8) -> bool
     }
 }
 
-/// Whether the text may stand between quotation marks.
+/// Whether the text may be put between quotation marks.
 pub fn fits_quotes(text: &[u8]) -> bool
     ensures { result ≡ fits_quotes false text.now }
 {

@@ -1,4 +1,4 @@
-//! Reading of URIs.
+//! Reading URIs.
 
 ghost use Rattle.std.specs.Prelude.{◌≡◌, ◌==◌, ◌≤◌, IsTrue, IfOk, IfErr, Some, map, length};
 ghost use Rattle.std.specs.List.{slice_split};
@@ -16,7 +16,7 @@ use crate::uri::{Host, Param, Params, Uri};
 use std::alloc::{AllocError, Global};
 use text::{Text, cut, lent, number_upto, same_without_case};
 
-/// The host of a text, whose octets these are where it is an address.
+/// The host in a text, whose octets these are if it is an address.
 fn host(text: &[u8], octets: Option<[u8; 4]>) -> Host<'_>
     requires { octets ≡ ip4_of text.now }
     ensures { result ≡ host_of text.now }
@@ -60,7 +60,7 @@ fn list_of_params(alloc: Global, text: &[u8], separator: u8) -> Result<Vec<Param
     Ok(params)
 }
 
-/// The parameters of a part whose pieces stand between separators.
+/// The parameters of a part whose pieces are between separators.
 fn params(alloc: Global, text: &[u8], separator: u8) -> Result<Params<'_>, AllocError>
     ensures { IfOk result (λ ps. ps ≡ fields_of separator (Some text.now)) }
 {
@@ -151,8 +151,8 @@ fn read(alloc: Global, bytes: &[u8]) -> Result<Uri<'_>, UriError>
     Ok(value(alloc, &parts, octets)?)
 }
 
-/// The URI that the bytes are (RFC 3261 section 25.1, SIP-URI). Of several faults the first in the order of `UriError`
-/// is given: the scheme, the form with `%` let through, the escapes of the whole URI, the port.
+/// The URI in the bytes (RFC 3261 section 25.1, SIP-URI). Of several faults, the first in the order of `UriError` is
+/// returned: the scheme, the form with every `%` allowed, the escapes of the whole URI, the port.
 pub fn read_uri(alloc: Global, bytes: &[u8]) -> Result<Uri<'_>, UriError>
     // What is read is a URI with this value.
     ensures found { IfOk result (λ uri. ReadsUri bytes.now uri) }

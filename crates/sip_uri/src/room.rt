@@ -1,4 +1,4 @@
-//! The room for a URI, or a name with one, that is written.
+//! The room for writing a URI, or a name with one.
 
-/// Room that most of them fit in, in bytes.
+/// Room that fits most of them, in bytes.
 pub(crate) const ROOM: usize = 64;

@@ -10,7 +10,7 @@ pub struct Addr {
     pub port: u16,
 }
 
-/// Where a URI leads: the four octets of an IPv4 address, or a host name as written.
+/// Where a URI points: the four octets of an IPv4 address, or a host name as written.
 pub enum Host<'a> {
     Ip4([u8; 4]),
     Name(Text<'a>),
@@ -77,7 +77,7 @@ impl<'a> Params<'a> {
     }
 }
 
-/// A URI of the scheme `sip` (RFC 3261 section 19.1.1). The user has its escapes undone, and has the password in it.
+/// A URI of the scheme `sip` (RFC 3261 section 19.1.1). The user is unescaped, and includes the password.
 pub struct Uri<'a> {
     pub user: Option<Text<'a>>,
     pub host: Host<'a>,

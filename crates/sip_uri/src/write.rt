@@ -1,4 +1,4 @@
-//! Writing of URIs.
+//! Writing URIs.
 
 ghost use Rattle.std.specs.Prelude.{◌≡◌, ◌++◌, ℕ, List, OnErr, OnOk, IfOk, decimal};
 ghost use Rattle.std.specs.Option.{option_copied};
@@ -35,7 +35,7 @@ fn put_escaped(out: &mut Vec<u8>, user: &[u8]) -> Result<(), AllocError>
     Ok(())
 }
 
-/// Writes an IPv4 address in plain decimals behind what is there. Where memory runs out, a part may be written there.
+/// Appends an IPv4 address in plain decimals. If memory runs out, a part may be written.
 pub fn put_ip4(out: &mut Vec<u8>, octets: &[u8; 4]) -> Result<(), AllocError>
     ensures ok { OnOk result (out.new.items ≡ out.old.items ++ ip4_text octets.now) }
     ensures err { OnErr result (BeginsWith out.old.items out.new.items) }
@@ -50,8 +50,7 @@ pub fn put_ip4(out: &mut Vec<u8>, octets: &[u8; 4]) -> Result<(), AllocError>
     Ok(())
 }
 
-/// Writes a host behind what is there: an IPv4 address in plain decimals, or a name as it stands. Where memory runs
-/// out, a part may be written there.
+/// Appends a host: an IPv4 address in plain decimals, or a name as it is. If memory runs out, a part may be written.
 pub fn put_host(out: &mut Vec<u8>, host: &Host) -> Result<(), AllocError>
     ensures ok { OnOk result (out.new.items ≡ out.old.items ++ host_text host.now) }
     ensures err { OnErr result (BeginsWith out.old.items out.new.items) }
@@ -63,7 +62,7 @@ pub fn put_host(out: &mut Vec<u8>, host: &Host) -> Result<(), AllocError>
     Ok(())
 }
 
-/// Writes `name` or `name=value` behind what is there. Where memory runs out, a part may be written there.
+/// Appends `name` or `name=value`. If memory runs out, a part may be written.
 pub fn put_param(out: &mut Vec<u8>, param: &Param) -> Result<(), AllocError>
     ensures ok { OnOk result (out.new.items ≡ out.old.items ++ param_text param.now) }
     ensures err { OnErr result (BeginsWith out.old.items out.new.items) }
@@ -76,8 +75,8 @@ pub fn put_param(out: &mut Vec<u8>, param: &Param) -> Result<(), AllocError>
     Ok(())
 }
 
-/// Writes parameters behind what is there, the first behind one byte and each other behind another. Where memory runs
-/// out, a part may be written there.
+/// Appends parameters, the first after one byte and each other after another. If memory runs out, a part may be
+/// written.
 pub fn put_params(
     out: &mut Vec<u8>,
     params: &[Param],
@@ -119,8 +118,8 @@ fn put_port(out: &mut Vec<u8>, port: Option<u16>) -> Result<(), AllocError>
     Ok(())
 }
 
-/// Writes a URI behind what is there. Bytes of its user that may not stand in one are written as `%` and two upper-case
-/// digits. Where memory runs out, a part may be written there.
+/// Appends a URI. Bytes of its user that are not allowed in one are written as `%` and two upper-case digits. If
+/// memory runs out, a part may be written.
 #[tactic(auto, unfolding(crate::specs::Writing::uri_text))]
 pub fn put_uri(out: &mut Vec<u8>, uri: &Uri) -> Result<(), AllocError>
     ensures ok { OnOk result (out.new.items ≡ out.old.items ++ uri_text uri.now) }
@@ -143,7 +142,7 @@ fn write(alloc: Global, uri: &Uri) -> Result<Text<'static>, AllocError>
     Ok(Text::from_vec(out))
 }
 
-/// The text of a URI. Bytes of its user that may not stand in one are written as `%` and two upper-case digits.
+/// The text of a URI. Bytes of its user that are not allowed in one are written as `%` and two upper-case digits.
 pub fn write_uri(alloc: Global, uri: &Uri) -> Result<Text<'static>, AllocError>
     // The text itself.
     ensures text { IfOk result (λ t. t ≡ uri_text uri.now) }

@@ -1,4 +1,4 @@
--- What is written for an response, with further header fields and a body, is read again as that response.
+-- What is written for a response, with further header fields and a body, is read again as that response.
 use Rattle.std.proofs.Common.{◌≡◌, ℕ, ◌≤◌, Bool, true, false, not, ◌&&◌, cond, eqb, List, [], ◌∷◌, ◌++◌, length, map, Option, Some, Result, Ok, Err, refl, sym, ap, subst, ◌∙◌, append_assoc, codes}
 use Rattle.std.specs.Prelude.{filter, IsTrue, IfOk}
 use Rattle.std.specs.List.{list_all, flat_map, AllByRecursion}
@@ -45,7 +45,7 @@ pub all_imply : (p q : Header → Bool) → ((h : Header) → p h ≡ true → q
 all_imply p q imply [] e = refl
 all_imply p q imply (h ∷ hs) e = let parts = and_parts (p h) (list_all p hs) e in and_from (q h) (list_all q hs) (imply h parts.0) (all_imply p q imply hs parts.1)
 
--- what a header field that repeats nothing is not named
+-- the names that a header field that repeats nothing does not have
 record IsOther (h : Header) : Type 0 where
   via : not (is_named (codes "Via") h) ≡ true
   from : not (is_named (codes "From") h) ≡ true
@@ -147,7 +147,7 @@ module _ (parts : Parts) (source : Addr) (status : ℕ) (tag : List ℕ) (token 
   to_is : IsTo (tagged_to status parts.to tag) to_text
   to_is = tagged_is status parts.to parts.to_text tag (record { value = h.to_value; party = h.to }) token
 
-  -- behind the Via fields
+  -- after the Via fields
   abbrev others : List Header → List Header
   others further = named (codes "From") parts.from_text ∷ named (codes "To") to_text ∷ named (codes "Call-ID") parts.call_id ∷ named (codes "CSeq") parts.cseq_text ∷ further
 

@@ -107,6 +107,6 @@ head_written hs body e =
     } in
     (reads, lines_count hs)
 
--- and is read so within a limit
+-- and it is read so within a limit
 pub written_again : (limit : ℕ) (hs : List Header) (body : List ℕ) → list_all is_written hs ≡ true → length hs < limit → head_of limit (headers_text hs ++ 13 ∷ 10 ∷ body) ≡ Some (hs, body)
 written_again limit hs body e few = let w = head_written hs body e in head_again limit (headers_text hs ++ 13 ∷ 10 ∷ body) hs body w.0 (omega (arith, w.1))

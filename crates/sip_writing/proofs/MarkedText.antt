@@ -70,7 +70,7 @@ filled_text_is : (asked : Bool) (port : ℕ) (ps : List Param) → text_of (fill
 filled_text_is true port ps = first_filled port ps
 filled_text_is false port ps = none_filled port ps
 
--- ---- what stands behind them
+-- ---- what comes after them
 
 joined : (a b c d e f : List ℕ) → ((((a ++ b) ++ c) ++ d) ++ e) ++ f ≡ a ++ (b ++ ((c ++ (d ++ e)) ++ f))
 joined a b c d e f =

@@ -1,4 +1,4 @@
--- A Via that the source was put into, and a To with a tag behind it, can be written as well.
+-- A Via that got the source, and a To with a tag after it, can be written as well.
 use Rattle.std.proofs.Common.{◌≡◌, ℕ, zero, suc, ◌<◌, ◌≤◌, ◌^◌, Bool, true, false, not, ◌&&◌, ◌||◌, cond, eqb, List, [], ◌∷◌, ◌++◌, length, get_or, set, Option, Some, None, Result, Ok, Err, is_some, refl, sym, ap, subst, ◌∙◌, append_assoc, codes, arith}
 use Rattle.std.specs.Prelude.{decimal, filter, position, slice_index}
 use Rattle.std.specs.List.{list_all, AllByRecursion}
@@ -172,7 +172,7 @@ with_tag text tag to h none token =
     let last = find_last (is_param (codes "tag")) to.params (tag_param tag) (no_tag to.params none) refl in
     party_at (text ++ 59 ∷ param_text (tag_param tag)) (with_param to (tag_param tag)) read (ap tag_fits last ∙ token)
 
--- one more text behind a value
+-- one more text after a value
 value_behind : (text tag : List ℕ) → IsValue text → is_run_of is_token_byte tag ≡ true → IsValue (text ++ 59 ∷ param_text (tag_param tag))
 value_behind text tag h token =
     let all = all_of_run tag token in
@@ -188,7 +188,7 @@ value_behind text tag h token =
 tag_joined : (text tag : List ℕ) → text ++ codes ";tag=" ++ tag ≡ text ++ 59 ∷ param_text (tag_param tag)
 tag_joined text tag = append_assoc text (codes ";tag=") tag
 
--- To of an response
+-- To of a response
 pub record IsTo (to : NameAddr) (text : List ℕ) : Type 0 where
   pub value : IsValue text
   pub party : party_of text ≡ Some to

@@ -55,7 +55,7 @@ length_written body small =
     let token : list_all is_token_byte (decimal (length body)) ≡ true = digits_token (decimal (length body)) (decimal_digits (length body) small) in
     is_written_from (length_header body) (record { token = refl; long = refl; clean = token_clean (decimal (length body)) token; trim = token_trimmed (decimal (length body)) token })
 
--- ---- header fields with one more behind
+-- ---- header fields with one more at the end
 
 all_behind : (p : Header → Bool) (hs : List Header) (h : Header) → list_all p hs ≡ true → p h ≡ true → list_all p (hs ++ h ∷ []) ≡ true
 all_behind p [] h e k = and_from (p h) true k refl
@@ -182,7 +182,7 @@ module _ (r : Request) (w : IsWrittenRequest r) where
     headers = headers_same (start_of_request r) r.headers r.parts r.max_forwards r.body w.rest;
   }
 
--- ---- an response
+-- ---- a response
 
 status_joined : (digits reason rest : List ℕ) → (codes "SIP/2.0 " ++ digits ++ 32 ∷ [] ++ reason ++ codes "\r\n") ++ rest ≡ (codes "SIP/2.0" ++ 32 ∷ (digits ++ 32 ∷ reason)) ++ 13 ∷ 10 ∷ rest
 status_joined digits reason rest = simp append_assoc

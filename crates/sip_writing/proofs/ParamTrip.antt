@@ -68,7 +68,7 @@ fields_of (p ∷ ps) h = (h.0.field, fields_of ps h.1)
 pub params_again : (ps : List Param) → AllByRecursion IsParam ps → Again ps
 params_again ps h = again_at ps (fields_of ps h)
 
--- parameters, each behind a semicolon
+-- parameters, each after a semicolon
 abbrev pub behind_semicolons : List Param → List ℕ
 behind_semicolons ps = params_text 59 59 ps
 

@@ -1,4 +1,4 @@
--- An response is one to its request.
+-- A response belongs to its request.
 use Rattle.std.proofs.Common.{◌≡◌, ℕ, zero, suc, ◌<◌, Bool, true, false, not, ◌&&◌, ◌||◌, cond, eqb, List, [], ◌∷◌, ◌++◌, length, get_or, set, Option, Some, None, is_some, Result, Ok, Err, refl, sym, ap, subst, ◌∙◌, codes, arith}
 use Rattle.std.specs.Prelude.{filter, find, position, decimal, nat_eq, IfOk}
 use Rattle.std.specs.Cmp.Lexicographic.{pointwise, bytes_decides}

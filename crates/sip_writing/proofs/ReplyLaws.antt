@@ -1,4 +1,4 @@
--- The top Via of an response.
+-- The top Via of a response.
 use Rattle.std.proofs.Common.{◌≡◌, ◌<◌, List, [], ◌∷◌, length, get_or, set, ap, arith}
 use Rattle.sip_uri.specs.declared.uri.Addr.{Addr}
 use Rattle.sip_message.specs.declared.via.Via.{Via}

@@ -56,7 +56,7 @@ rest_text from to call cseq =
     ap (λ (t : List ℕ). codes "From: " ++ (from ++ (codes "\r\n" ++ t))) (sym (line_before (codes "To: ") to (headers_text (call_lines call cseq))))
     ∙ sym (line_before (codes "From: ") from (headers_text (named (codes "To") to ∷ call_lines call cseq)))
 
--- behind the lines that stand there
+-- after the lines that are there
 pub joined_lines : (o : List ℕ) (hs : List Header) (from to call cseq : List ℕ)
     → (((((o ++ headers_text hs) ++ codes "From: ") ++ from) ++ codes "\r\nTo: ") ++ to) ++ (codes "\r\nCall-ID: " ++ (call ++ (codes "\r\nCSeq: " ++ (cseq ++ codes "\r\n"))))
     ≡ o ++ headers_text ((((hs ++ named (codes "From") from ∷ []) ++ named (codes "To") to ∷ []) ++ named (codes "Call-ID") call ∷ []) ++ named (codes "CSeq") cseq ∷ [])

@@ -1,4 +1,4 @@
--- How long a text in a room is behind a number.
+-- How long a text in a room is after a number.
 use Rattle.std.proofs.Common.{ℕ, ◌+◌, ◌<◌, ◌^◌, ◌≤◌, List, ◌++◌, length, decimal, length-append, arith}
 use Rattle.std.proofs.lemmas.Fmt.{length-decimal-le}
 

@@ -13,7 +13,7 @@ use Rattle.sip_message.specs.Start.{has_no_space, status_read}
 
 -- ---- a status
 
--- how many digits a number has at least
+-- the minimum number of digits of a number
 record Digits (n : ℕ) (digits : List ℕ) : Type 0 where
   one : 1 ≤ length digits
   two : 10 ≤ n → 2 ≤ length digits

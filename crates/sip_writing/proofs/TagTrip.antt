@@ -59,7 +59,7 @@ reads_tag (b ∷ bs) h =
       value = rw (one_piece tag h, not_empty b bs, trim) refl;
     }
 
--- a tag that is written is one that may stand
+-- a tag that is written is an allowed one
 pub tag_fits_again : (tag : List ℕ) → list_all is_token_byte tag ≡ true → has_fit_tag (tag_params tag) ≡ true
 tag_fits_again [] h = refl
 tag_fits_again (b ∷ bs) h = rw (not_empty b bs) (rw (not_empty b bs) h)

@@ -1,4 +1,4 @@
--- A Via that was read, or that the source was put into, is read again from what is written for it.
+-- A Via that was read, or that got the source, is read again from what is written for it.
 use Rattle.std.proofs.Common.{◌≡◌, ℕ, Bool, true, false, not, ◌&&◌, cond, eqb, List, [], ◌∷◌, ◌++◌, length, Option, Some, None, refl, sym, ap, subst, ◌∙◌, append_assoc, codes}
 use Rattle.std.specs.Prelude.{option_map, nat_lt, unwrap_or}
 use Rattle.std.specs.Char.{is_ascii_digit}

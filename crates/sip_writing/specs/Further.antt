@@ -1,4 +1,4 @@
--- What may stand behind the header fields of a response (RFC 3261 section 7.3.1).
+-- What may come after the header fields of a response (RFC 3261 section 7.3.1).
 use Rattle.std.specs.Prelude.{ℕ, Bool, not, ◌&&◌, ◌≤◌, IsTrue, List, ◌++◌, length, codes}
 use Rattle.std.specs.List.{list_all}
 use Rattle.sip_message.specs.declared.headers.Header.{Header}
@@ -31,8 +31,7 @@ pub record MayFollow (start : Start) (method : List ℕ) (further : List Header)
 abbrev pub with_further : Response → List Header → List ℕ → Response
 with_further response further body = record response { headers = response.headers ++ further; body = body }
 
--- the response is of the form that is written and read again, whatever may follow in its header fields and whatever its
--- body is
+-- the response is of the form that is written and read again, whatever further header fields and whatever body it has
 abbrev pub IsReadAgain : Response → Type 0
 IsReadAgain response =
     (further : List Header) (body : List ℕ) → MayFollow (start_of_response response) response.parts.cseq.method further → length body ≤ max_content_length

@@ -1,4 +1,4 @@
--- What is written of the parameters of a Via that the source is put into, one by one.
+-- What is written for the parameters of a Via that gets the source, one by one.
 use Rattle.std.specs.Prelude.{ℕ, Bool, not, ◌&&◌, List, [], ◌∷◌, ◌++◌, codes, decimal, if◌then◌else◌}
 use Rattle.sip_uri.specs.declared.uri.Addr.{Addr}
 use Rattle.sip_uri.specs.declared.uri.Param.{Param}
@@ -9,14 +9,14 @@ use Rattle.sip_writing.specs.Reply.{is_param}
 abbrev pub filled_text : ℕ → Param → List ℕ
 filled_text port p = 59 ∷ p.name ++ 61 ∷ decimal port
 
--- a `received` is left out, any other stands as it is
+-- a `received` is left out, any other stays as it is
 abbrev pub kept_text : Param → List ℕ
 kept_text p = if is_param (codes "received") p then [] else 59 ∷ param_text p
 
 abbrev pub marked_param_text : Bool → ℕ → Param → List ℕ
 marked_param_text fills port p = if fills then filled_text port p else kept_text p
 
--- the first `rport` is filled, where it is empty
+-- the first `rport` is filled if it is empty
 abbrev pub marked_params_text : Bool → ℕ → List Param → List ℕ
 marked_params_text empty port [] = []
 marked_params_text empty port (p ∷ ps) =

@@ -47,7 +47,7 @@ abbrev pub is_address : Host → List ℕ → Bool
 is_address (Ip4 octets) ip = pointwise nat_eq octets ip
 is_address (Name name) ip = false
 
--- the host of sent-by is another, or `rport` was empty
+-- the host of sent-by differs, or `rport` was empty
 abbrev pub needs_received : Bool → Host → List ℕ → Bool
 needs_received asked host ip = asked || not (is_address host ip)
 
@@ -63,8 +63,8 @@ with_received needed source params = if needed then params ++ received source �
 abbrev pub marked_params : Bool → Bool → Addr → List Param → List Param
 marked_params asked needed source params = with_received needed source (without (codes "received") (filled asked source.port params))
 
--- an empty `rport` gets the source port, a `received` of the sender's own is taken out, and ours is put behind where
--- the host is another or `rport` was empty
+-- an empty `rport` gets the source port, a `received` of the sender's own is removed, and ours is added at the end if
+-- the host differs or `rport` was empty
 unfoldable pub marked : Addr → Via → Via
 marked source via =
     let asked = asks_port via.params in
@@ -79,7 +79,7 @@ marked_top source (via ∷ vias) = marked source via ∷ vias
 abbrev pub tag_param : List ℕ → Param
 tag_param tag = record { name = codes "tag"; value = Some tag }
 
--- no tag is put where one is, nor into a 100
+-- no tag is added if there is one, or in a 100
 abbrev pub puts_tag : ℕ → NameAddr → Bool
 puts_tag status to = not (has_tag to.params) && not (status == 100)
 

@@ -51,7 +51,7 @@ server_via server token = record {
 abbrev pub tag_params : List ℕ → List Param
 tag_params tag = if length tag == 0 then [] else tag_param tag ∷ []
 
--- display and URI, with this tag alone
+-- display and URI, and only this tag
 abbrev pub name_with_tag : Option (List ℕ) → Uri → List ℕ → NameAddr
 name_with_tag display uri tag = record { display = display; uri = uri; params = tag_params tag }
 
@@ -89,7 +89,7 @@ headers_with hops parts =
     ++ named (codes "Call-ID") parts.call_id ∷ []
     ++ named (codes "CSeq") parts.cseq_text ∷ []
 
--- the further header fields stand behind those that each request has
+-- the further header fields come after those that each request has
 abbrev pub request_with : List ℕ → Uri → Parts → ℕ → List Header → List ℕ → Request
 request_with method uri parts hops further body = record {
   method = method;
@@ -105,13 +105,13 @@ request_of d = request_with d.method.now d.uri.now (parts_of d) d.max_forwards d
 
 -- ---- what is written and read again
 
--- a Via that a clean text says
+-- a Via that a clean text contains
 pub record IsReadVia (via : Via) : Type 0 where
   pub text : List ℕ
   pub clean : IsTrue (is_clean text)
   pub reads : via_of text ≡ Some via
 
--- a name whose display and URI were read of a clean text, with whatever parameters
+-- a name whose display and URI were read from a clean text, with any parameters
 pub record IsReadName (name : NameAddr) : Type 0 where
   pub text : List ℕ
   pub params : List Param
@@ -125,13 +125,13 @@ pub record IsEnd (name : NameAddr) : Type 0 where
   pub token : IsTrue (list_all is_token_byte tag)
   pub tagged : name.params ≡ tag_params tag
 
--- a header field that no request has by itself, and that none is given
+-- a header field that is none of those that each request has
 abbrev pub is_further : Header → Bool
 is_further h =
     not (is_named (codes "Via") h) && not (is_named (codes "Max-Forwards") h) && not (is_named (codes "From") h) && not (is_named (codes "To") h)
     && not (is_named (codes "Call-ID") h) && not (is_named (codes "CSeq") h) && not (is_named (codes "Content-Length") h)
 
--- each of its values came out of a message, or is a token or a number of its form
+-- each of its values was read from a message, or is a token or a well-formed number
 pub record IsSound (d : Draft) : Type 0 where
   pub method : IsTrue (is_run_of is_token_byte d.method.now)
   pub uri_text : List ℕ

@@ -17,7 +17,7 @@ use Rattle.sip_message.specs.Lookup.{is_named, values_named}
 use Rattle.sip_message.specs.ContentLength.{max_content_length}
 use Rattle.sip_message.specs.Written.{is_written}
 
--- Content-Length is written by itself, of the body
+-- Content-Length is written separately, from the body
 abbrev pub tells_no_length : Header → Bool
 tells_no_length header = not (is_named (codes "Content-Length") header)
 
@@ -33,7 +33,7 @@ pub record IsWrittenRest (start : Start) (headers : List Header) (parts : Parts)
 
 pub record IsWrittenRequest (request : Request) : Type 0 where
   pub token : IsTrue (is_run_of is_token_byte request.method)
-  -- the Request-URI is read of some text
+  -- the Request-URI is read from some text
   pub uri_from : List ℕ
   pub uri : ReadsUri uri_from request.uri
   pub rest : IsWrittenRest (start_of_request request) request.headers request.parts request.max_forwards request.body

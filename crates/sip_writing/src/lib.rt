@@ -1,6 +1,6 @@
-//! What is written of messages of the session initiation protocol (RFC 3261 sections 7, 8.2.6, 18.2 and 21, RFC 3581):
-//! the bytes of a message, the response to a request, and where that goes. What is written for a message of the written
-//! form is read as that message. Nothing here knows of sockets, time, transactions or users.
+//! How messages of the session initiation protocol are written (RFC 3261 sections 7, 8.2.6, 18.2 and 21, RFC 3581):
+//! the bytes of a message, the response to a request, and where that goes. What is written for a message of the
+//! written form is read as that message. Nothing here knows of sockets, time, transactions or users.
 #![tactic(auto)]
 
 mod laws;

@@ -1,4 +1,4 @@
-//! The top Via of a response, written with no Via made for it.
+//! The top Via of a response, written without making a Via for it.
 
 ghost use Rattle.std.specs.Prelude.{◌≡◌, ◌++◌, codes, OnOk};
 ghost use Rattle.sip_message.specs.Lookup.{named};
@@ -75,7 +75,7 @@ fn put_received(out: &mut Vec<u8>, needed: bool, source: Addr) -> Result<(), All
     Ok(())
 }
 
-/// The Via with the source of its request, on a line of its own: the bytes of the one that `marked` makes.
+/// Writes the Via with the source of its request, on a line of its own: the bytes of the one that `marked` makes.
 pub(crate) fn put_marked_via(
     out: &mut Vec<u8>,
     via: &Via<'_>,

@@ -3,7 +3,7 @@
 ghost use Rattle.std.specs.Prelude.{◌≡◌};
 ghost use Rattle.sip_writing.specs.Reasons.{reason_of};
 
-/// The text that the server writes for a status; `Other` for a number that it has no text for.
+/// The text that the server writes for a status; `Other` for a number without a text.
 #[tactic(auto, unfolding(crate::specs::Reasons::reason_of))]
 pub(crate) fn reason_of(status: u16) -> &'static [u8]
     ensures { result.now ≡ reason_of status }

@@ -1,4 +1,4 @@
-//! What the server puts into the top Via of a request (RFC 3261 section 18.2.1, RFC 3581 section 4).
+//! What the server adds to the top Via of a request (RFC 3261 section 18.2.1, RFC 3581 section 4).
 
 ghost use Rattle.std.specs.Prelude.{◌≡◌, ◌<◌, ◌≤◌, ℕ, slice_index, length, position, decimal, IfOk, IfSome, OnOk, map};
 ghost use Rattle.std.specs.Option.{option_copied};
@@ -72,7 +72,7 @@ fn is_address(host: &Host, ip: &[u8; 4]) -> bool
     }
 }
 
-/// Whether `received` is put into the top Via: the host of sent-by is another, or `rport` was empty.
+/// Whether `received` is added to the top Via: the host of sent-by differs, or `rport` was empty.
 pub(crate) fn needs_received(asked: bool, host: &Host, ip: &[u8; 4]) -> bool
     ensures { result ≡ needs_received asked host.now ip.now }
 {
@@ -154,8 +154,8 @@ fn marked_params(
     Ok(Params::from_vec(params))
 }
 
-/// The Via with the source of its request: an empty `rport` gets the port, and `received` the address, where the host
-/// of sent-by is another or `rport` was empty.
+/// The Via with the source of its request: an empty `rport` gets the port, and `received` gets the address if the
+/// host of sent-by differs or `rport` was empty.
 #[tactic(auto, unfolding(crate::specs::Reply::marked))]
 pub(crate) fn mark_source(
     alloc: Global,

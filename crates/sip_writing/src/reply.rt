@@ -43,7 +43,7 @@ pub fn via_headers(alloc: Global, vias: &[Via<'_>]) -> Result<Headers<'static>, 
     Ok(Headers::from_vec(headers))
 }
 
-/// The header fields of a response, but for those that one response needs and another doesn't.
+/// The header fields of a response, except for those that one response needs and another doesn't.
 #[tactic(auto, unfolding(crate::specs::Reply::reply_headers))]
 fn reply_headers(alloc: Global, parts: &Parts<'_>) -> Result<Headers<'static>, AllocError>
     ensures { IfOk result (λ hs. hs ≡ reply_headers parts.now) }
@@ -217,8 +217,8 @@ fn reply(
     })
 }
 
-/// The response to a request that came from `source`, with no body: each Via, From, To, Call-ID and CSeq as received,
-/// the top Via with the source, and To with the tag where it has none and the status is not 100.
+/// The response to a request that came from `source`, without a body: each Via, From, To, Call-ID and CSeq as
+/// received. The top Via gets the source, and To gets the tag if it has none and the status is not 100.
 pub fn reply_to(
     alloc: Global,
     parts: &Parts<'_>,
@@ -229,8 +229,8 @@ pub fn reply_to(
     ensures answer { IfOk result (λ r. r ≡ reply_of parts.now source status tag.now) }
     // It is a response to the request, by branch, Call-ID, tags, number and method.
     ensures replies { IfOk result (λ r. Replies r.parts parts.now status tag.now) }
-    // What is written for it is read as it, where the parts were read, the tag is a token and the status is one of a
-    // response.
+    // What is written for it is read back as it, if the parts were read, the tag is a token and the status is that of
+    // a response.
     ensures again { IfOk result (λ r. CanBeRepeated parts.now → IsTrue (is_run_of is_token_byte tag.now) → 100 ≤ status → status ≤ 699 → IsReadAgain r) }
 {
     numbers_fit(&source.ip, source.port);
@@ -247,8 +247,8 @@ fn response_port(via: &Via, source: Addr) -> u16
     }
 }
 
-/// Where a response goes: to the source address, and there to the source port where the top `rport` was empty, else to
-/// the port of sent-by, else to 5060 (RFC 3261 section 18.2.2, RFC 3581 section 4). Takes no memory.
+/// Where a response goes: to the source address. The port there is the source port if the top `rport` was empty, or
+/// otherwise the port of sent-by, or otherwise 5060 (RFC 3261 section 18.2.2, RFC 3581 section 4). Takes no memory.
 pub fn reply_address(parts: &Parts, source: Addr) -> Addr
     ensures address { result ≡ response_address parts.now.vias source }
 {

@@ -1,4 +1,4 @@
-//! Responses that are written at once: the same bytes, with no response made for them.
+//! Responses that are written directly: the same bytes, without making a response for them.
 
 ghost use Rattle.std.specs.Prelude.{◌≡◌, ◌++◌, ◌∷◌, [], codes, decimal, IfOk, OnOk};
 ghost use Rattle.sip_message.specs.Lookup.{named};
@@ -18,8 +18,8 @@ use sip_uri::{Addr, put_params};
 use std::alloc::{AllocError, Global};
 use text::{Text, put_number};
 
-/// What a response is made of: the request's parts and where it came from, the status, the tag that To is given where
-/// it has none, and what stands behind what each response has.
+/// What a response is made of: the request's parts and where it came from, the status, the tag that To gets if it has
+/// none, and what comes after the fields that each response has.
 #[derive(Clone, Copy)]
 pub struct Reply<'m, 'a> {
     pub parts: &'m Parts<'a>,
@@ -84,7 +84,7 @@ fn put_to(out: &mut Vec<u8>, parts: &Parts<'_>, status: u16, tag: &[u8]) -> Resu
     Ok(())
 }
 
-/// Behind the value of To: the end of its line, then Call-ID and CSeq, each on a line of its own.
+/// Writes what comes after the value of To: the end of its line, then Call-ID and CSeq, each on a line of its own.
 pub(crate) fn put_call(out: &mut Vec<u8>, parts: &Parts<'_>) -> Result<(), AllocError>
     ensures { OnOk result (out.new.items ≡ out.old.items
         ++ (codes "\r\nCall-ID: " ++ (parts.now.call_id ++ (codes "\r\nCSeq: " ++ (parts.now.cseq_text ++ codes "\r\n"))))) }
@@ -97,7 +97,7 @@ pub(crate) fn put_call(out: &mut Vec<u8>, parts: &Parts<'_>) -> Result<(), Alloc
     Ok(())
 }
 
-// Each piece has its cost, so the end of a line is written with the name on the next.
+// Each piece has its cost, so the end of a line is written together with the name on the next.
 fn put_repeated(out: &mut Vec<u8>, reply: &Reply<'_, '_>) -> Result<(), AllocError>
     ensures { OnOk result (out.new.items ≡ out.old.items
         ++ headers_text (reply_headers (replied reply.now.parts.now reply.now.source reply.now.status reply.now.tag.now))) }
@@ -123,7 +123,7 @@ fn put_reply(out: &mut Vec<u8>, reply: &Reply<'_, '_>) -> Result<(), AllocError>
     put_content(out, reply.body)
 }
 
-/// The bytes of the response that `reply_to` makes, with these further header fields behind its own, and this body.
+/// The bytes of the response that `reply_to` makes, with these further header fields after its own, and this body.
 pub fn write_reply(alloc: Global, reply: &Reply<'_, '_>) -> Result<Text<'static>, AllocError>
     ensures text { IfOk result (λ t. t ≡ message_text (Kinds.Response
         (with_further (reply_of reply.now.parts.now reply.now.source reply.now.status reply.now.tag.now) reply.now.further.now reply.now.body.now))) }

@@ -1,4 +1,4 @@
-//! Requests that are written at once: the same bytes, with no request made for them.
+//! Requests that are written directly: the same bytes, without making a request for them.
 
 ghost use Rattle.std.specs.Prelude.{◌≡◌, ◌++◌, codes, decimal, IfOk, OnOk};
 ghost use Rattle.sip_message.specs.Lookup.{named};
@@ -15,14 +15,14 @@ use sip_uri::Uri;
 use std::alloc::{AllocError, Global};
 use text::{Text, put_number};
 
-/// What a request is made of whose parts are at hand.
+/// What a request is made of if its parts are at hand.
 #[derive(Clone, Copy)]
 pub struct Outline<'m, 'a> {
     pub method: &'m [u8],
     pub uri: &'m Uri<'a>,
     pub parts: &'m Parts<'a>,
     pub max_forwards: u8,
-    /// Header fields that stand behind those that each request has.
+    /// Header fields that come after those that each request has.
     pub further: &'m [Header<'a>],
     pub body: &'m [u8],
 }

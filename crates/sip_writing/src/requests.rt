@@ -20,10 +20,10 @@ use sip_uri::{Addr, Host, NameAddr, Param, Params, Uri, keep_text, write_name_ad
 use std::alloc::{AllocError, Global};
 use text::{Room, Text, both, put_number};
 
-/// So many bytes of a text fit a room behind a number of 32 bits and a space, or behind the front of a branch.
+/// How many bytes of a text fit in a room after a number of 32 bits and a space, or after the front of a branch.
 const MOST_BEHIND: usize = 40;
 
-/// What a request is made of. The body's length is written of the body.
+/// What a request is made of. The body's length is computed from the body.
 #[derive(Clone, Copy)]
 pub struct Draft<'m, 'a> {
     pub method: &'m [u8],
@@ -35,7 +35,7 @@ pub struct Draft<'m, 'a> {
     pub call_id: &'m [u8],
     /// The number of CSeq.
     pub number: u32,
-    /// Header fields that stand behind those that each request has.
+    /// Header fields that come after those that each request has.
     pub further: &'m [Header<'a>],
     pub body: &'m [u8],
 }
@@ -67,7 +67,7 @@ fn branch_param(alloc: Global, token: &[u8]) -> Result<Param<'static>, AllocErro
     })
 }
 
-/// The server's address as sent-by has it.
+/// The server's address in the form of sent-by.
 fn sent_by_text(alloc: Global, server: Addr) -> Result<Text<'static>, AllocError>
     ensures { IfOk result (λ text. text ≡ ip4_text server.ip ++ led_by 58 (Some (decimal server.port))) }
 {
@@ -99,7 +99,7 @@ fn four_octets(ip: &[u8; 4])
 /// (RFC 3261 section 8.1.1.7).
 pub fn server_via(alloc: Global, server: Addr, token: &[u8]) -> Result<Via<'static>, AllocError>
     ensures via { IfOk result (λ via. via ≡ server_via server token.now) }
-    // It is one that can be read, and so one that a request may have.
+    // It can be read, and so a request may have it.
     ensures read { IfOk result (λ via. IsTrue (is_run_of is_token_byte token.now) → 1 ≤ server.port → IsReadVia via) }
 {
     numbers_fit(&server.ip, server.port);
@@ -118,7 +118,7 @@ fn tag_params(alloc: Global, tag: &[u8]) -> Result<Params<'static>, AllocError>
     Ok(Params::from_vec(params))
 }
 
-/// The name of From or To of a request: display and URI, with this tag alone, which is left out where it is empty (RFC
+/// The name of From or To of a request: display and URI, and only this tag, which is left out if it is empty (RFC
 /// 3261 section 12.2.1.1).
 pub fn name_with_tag(
     alloc: Global,
@@ -252,7 +252,7 @@ fn headers_with(alloc: Global, hops: u8, parts: &Parts<'_>) -> Result<Headers<'s
     Ok(headers)
 }
 
-/// Puts these header fields behind those that are there.
+/// Appends these header fields.
 fn add_further(
     alloc: Global,
     headers: &mut Headers<'static>,

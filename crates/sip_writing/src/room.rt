@@ -1,5 +1,5 @@
-//! The room for a message that is written.
+//! The room for writing a message.
 
-/// Room that most messages fit in, in bytes: one allocation is enough for them, and it is small enough for the lists of
-/// free blocks that the C library keeps.
+/// Room that fits most messages, in bytes: one allocation is enough for them, and it is small enough for the C
+/// library's lists of free blocks.
 pub(crate) const ROOM: usize = 1024;

@@ -8,7 +8,7 @@ ghost use Rattle.text.specs.Limits.{max_in_room};
 use sip_uri::Addr;
 use text::Room;
 
-/// Puts an octet in plain decimals behind what is there.
+/// Appends an octet in plain decimals.
 fn put_octet(room: &mut Room, octet: u8)
     requires { length room.old + 20 ≤ max_in_room }
     ensures octet { room.new ≡ room.old ++ decimal octet }
@@ -17,7 +17,7 @@ fn put_octet(room: &mut Room, octet: u8)
     room.put_number(u64::from(octet));
 }
 
-/// Puts a port in plain decimals behind what is there.
+/// Appends a port in plain decimals.
 fn put_port(room: &mut Room, port: u16)
     requires { length room.old + 20 ≤ max_in_room }
     ensures port { room.new ≡ room.old ++ decimal port }
@@ -26,7 +26,7 @@ fn put_port(room: &mut Room, port: u16)
     room.put_number(u64::from(port));
 }
 
-/// Puts an address and its port, `ADDRESS:PORT`, behind what is there, with room for 36 bytes more. Takes no memory.
+/// Appends an address and its port, `ADDRESS:PORT`, with room for 36 bytes more. Takes no memory.
 pub fn put_socket_address(room: &mut Room, address: Addr)
     requires { length room.old + 36 ≤ max_in_room }
     ensures address { room.new ≡ room.old ++ ip4_text address.ip ++ led_by 58 (Some (decimal address.port)) }

@@ -1,4 +1,4 @@
-//! Requests of which nothing is kept but their bytes: these are written at once, with no parts made for them.
+//! Requests of which nothing is kept except their bytes: these are written directly, without making parts for them.
 
 ghost use Rattle.std.specs.Prelude.{◌≡◌, ◌++◌, codes, IfOk, OnOk};
 ghost use Rattle.sip_uri.specs.NameAddr.{name_addr_text};
@@ -18,8 +18,8 @@ use sip_uri::{Uri, put_display_and_uri};
 use std::alloc::{AllocError, Global};
 use text::{Text, put_number};
 
-/// From or To of a request: display and URI of an end, with its tag alone, which is left out where it is empty (RFC
-/// 3261 section 12.2.1.1).
+/// From or To of a request: display and URI of an end, and only its tag, which is left out if it is empty (RFC 3261
+/// section 12.2.1.1).
 #[derive(Clone, Copy)]
 pub struct EndName<'m, 'a> {
     pub display: &'m Option<Text<'a>>,
@@ -27,7 +27,7 @@ pub struct EndName<'m, 'a> {
     pub tag: &'m [u8],
 }
 
-/// What a request is made of that is sent and not kept.
+/// What a request that is sent and not kept is made of.
 #[derive(Clone, Copy)]
 pub struct Unkept<'m, 'a> {
     pub method: &'m [u8],
@@ -39,12 +39,12 @@ pub struct Unkept<'m, 'a> {
     pub call_id: &'m [u8],
     /// The number of CSeq.
     pub number: u32,
-    /// Header fields that stand behind those that each request has.
+    /// Header fields that come after those that each request has.
     pub further: &'m [Header<'a>],
     pub body: &'m [u8],
 }
 
-/// A header field on a line of its own, whose label is its name with the colon and the blank behind it.
+/// A header field on a line of its own, whose label is its name with the colon and the blank after it.
 fn put_line(out: &mut Vec<u8>, label: &[u8], value: &[u8]) -> Result<(), AllocError>
     ensures { OnOk result (out.new.items ≡ out.old.items ++ (label.now ++ (value.now ++ codes "\r\n"))) }
 {

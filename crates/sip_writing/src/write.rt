@@ -1,4 +1,4 @@
-//! Writing of messages.
+//! Writing messages.
 
 ghost use Rattle.std.specs.Prelude.{◌≡◌, ◌++◌, ◌∷◌, [], ℕ, List, codes, OnOk, IfOk, decimal};
 ghost use Rattle.sip_uri.specs.Writing.{uri_text};
@@ -13,7 +13,7 @@ use sip_uri::{Uri, put_uri};
 use std::alloc::{AllocError, Global};
 use text::{Text, put_number};
 
-/// Writes the start line of a request behind what is there.
+/// Appends the start line of a request.
 pub(crate) fn put_request_line(
     out: &mut Vec<u8>,
     method: &[u8],
@@ -48,7 +48,7 @@ fn put_header(out: &mut Vec<u8>, header: &Header) -> Result<(), AllocError>
     out.extend_from_slice(b"\r\n")
 }
 
-/// Writes the header fields behind what is there, each on a line of its own.
+/// Appends the header fields, each on a line of its own.
 pub(crate) fn put_headers(out: &mut Vec<u8>, headers: &[Header]) -> Result<(), AllocError>
     ensures text { OnOk result (out.new.items ≡ out.old.items ++ headers_text headers.now) }
 {
@@ -58,7 +58,7 @@ pub(crate) fn put_headers(out: &mut Vec<u8>, headers: &[Header]) -> Result<(), A
     Ok(())
 }
 
-/// Content-Length, the empty line behind it, and the body.
+/// Content-Length, the empty line after it, and the body.
 pub(crate) fn put_content(out: &mut Vec<u8>, body: &[u8]) -> Result<(), AllocError>
     ensures { OnOk result (out.new.items ≡ out.old.items ++ length_text body.now ++ body.now) }
 {
@@ -98,7 +98,7 @@ fn put_response(out: &mut Vec<u8>, response: &Response) -> Result<(), AllocError
 /// The bytes of a request: its start line, its header fields in order, Content-Length, and its body.
 pub fn write_request(alloc: Global, request: &Request) -> Result<Text<'static>, AllocError>
     ensures text { IfOk result (λ t. t ≡ message_text (Kinds.Request request.now)) }
-    // What is written for a request of the written form is that request, also past the limits of reading.
+    // What is written for a request of the written form is that request, even beyond the limits of reading.
     ensures again { IsWrittenMessage (Kinds.Request request.now) → IfOk result (λ t. ReadsMessage t (Kinds.Request request.now)) }
 {
     let mut out = Vec::with_capacity(alloc, ROOM)?;
@@ -109,7 +109,7 @@ pub fn write_request(alloc: Global, request: &Request) -> Result<Text<'static>, 
 /// The bytes of a response, in the same order.
 pub fn write_response(alloc: Global, response: &Response) -> Result<Text<'static>, AllocError>
     ensures text { IfOk result (λ t. t ≡ message_text (Kinds.Response response.now)) }
-    // What is written for a response of the written form is that response, also past the limits of reading.
+    // What is written for a response of the written form is that response, even beyond the limits of reading.
     ensures again { IsWrittenMessage (Kinds.Response response.now) → IfOk result (λ t. ReadsMessage t (Kinds.Response response.now)) }
 {
     let mut out = Vec::with_capacity(alloc, ROOM)?;
@@ -120,7 +120,7 @@ pub fn write_response(alloc: Global, response: &Response) -> Result<Text<'static
 /// The bytes of a message: of its request, or of its response.
 pub fn write_message(alloc: Global, message: &Message) -> Result<Text<'static>, AllocError>
     ensures text { IfOk result (λ t. t ≡ message_text message.now) }
-    // What is written for a message of the written form is that message, also past the limits of reading.
+    // What is written for a message of the written form is that message, even beyond the limits of reading.
     ensures again { IsWrittenMessage message.now → IfOk result (λ t. ReadsMessage t message.now) }
 {
     match message {

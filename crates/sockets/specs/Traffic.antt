@@ -21,16 +21,16 @@ no_traffic = record { taken = []; asked = []; sent = []; room = 0; failed = fals
 abbrev pub at_sip : Addr → List ℕ → Datagram
 at_sip other bytes = record { own = 0; ip = other.ip; port = other.port; bytes = bytes }
 
--- the first relay port, how many sockets stand from there on, and how many workers share them
+-- the first relay port, how many sockets there are from it on, and how many workers share them
 pub record RelayPorts : Type 0 where
   pub first : ℕ
   pub sockets : ℕ
   pub workers : ℕ
 
--- at least one, and no more than a board has viewers
+-- at least one, and at most as many as a board may have viewers
 abbrev pub worker_count : Config → ℕ
 worker_count config = min (max config.workers 1) max_viewers
 
--- two sockets for each pair, and 65,535 at most
+-- two sockets for each pair, but at most 65,535
 abbrev pub relay_ports : Config → RelayPorts
 relay_ports config = record { first = config.relay_first; sockets = min (config.relay_pairs * 2) (2 ^ 16 - 1); workers = worker_count config }

@@ -13,7 +13,7 @@ use std::time::Duration;
 /// Its descriptor.
 const DESCRIPTOR: i32 = 2;
 
-/// So many milliseconds are waited.
+/// How many milliseconds are waited.
 const WAIT: u64 = 50;
 
 /// The standard error of the process, which a thread writes to without its runtime. Contracts see the texts that it was
@@ -51,7 +51,7 @@ fn write_all(bytes: &[u8]) {
 }
 
 impl ErrorStream {
-    /// Nothing was written.
+    /// A stream to which nothing was written.
     pub fn new<R: Net>(rt: &R, alloc: Global) -> io::Result<ErrorStream>
         ensures { IfOk result (λ stream. stream ≡ []) }
     {
@@ -62,7 +62,7 @@ impl ErrorStream {
         })
     }
 
-    /// Writes a text, and waits for the stream where that takes it slowly. What the stream refuses is lost.
+    /// Writes a text, and waits if the stream takes it slowly. What the stream refuses is lost.
     pub fn write(&mut self, text: &[u8])
         ensures { self.new ≡ self.old ++ text.now ∷ [] }
     {

@@ -7,8 +7,8 @@ ghost use base.Fml.{ftrue};
 
 use std::marker::Model;
 
-/// Datagrams in the order in which they were noted. A caller learns nothing of them by this: it is for the clauses of
-/// `SipSocket` and `MediaSocket`, which code that is generic over sockets relies on.
+/// Datagrams in the order in which they were noted. A caller learns nothing from this: it is for the clauses of
+/// `SipSocket` and `MediaSocket`, on which code that is generic over sockets relies.
 #[derive(Drop)]
 pub struct Log {
     pub ghost entries: { List Datagram } by { coded_list coded_datagram },

@@ -13,8 +13,8 @@ use std::io::ErrorKind;
 use std::marker::Model;
 use std::sync::Arc;
 
-/// All relay sockets, by rising port, and those of this worker that are ready. It notes what it takes, and what
-/// it is asked to send and sends, for clauses alone.
+/// All relay sockets, by rising port, and those of this worker that are ready. It notes what it takes, and what it is
+/// asked to send and sends, only for clauses.
 #[derive(Drop)]
 pub struct MediaSockets {
     pub(crate) sockets: Arc<Vec<UdpSocket>>,

@@ -64,8 +64,8 @@ fn bind_at<R: Net>(rt: &R, ip: [u8; 4], port: u16) -> Result<UdpSocket, Unbound>
     }
 }
 
-/// Has the poll tell of the socket, by this number, for as long as a datagram is there. `mio` registers sockets of
-/// which it tells as one comes, and which have to be read until none is there.
+/// Has the poll report the socket, with this number, for as long as a datagram is there. `mio` registers sockets that
+/// are reported only as one comes, and that have to be read until none is there.
 fn watch(poll: &Poll, socket: &UdpSocket, number: u64) -> io::Result<()> {
     let (poll, socket) = (poll.as_raw_fd(), socket.as_raw_fd());
     if os::epoll_ctl(poll, EPOLL_CTL_ADD, socket, EPOLLIN, number) == 0 {
@@ -105,7 +105,7 @@ fn polls_of<R: Net>(rt: &R, alloc: Global, count: usize) -> Result<Vec<Poll>, Un
     Ok(polls)
 }
 
-/// The relay socket at this place, which is read by the worker of its pair.
+/// The relay socket at this place, which the worker of its pair reads.
 fn bind_relay<R: Net>(
     rt: &R,
     config: &Config,
@@ -135,8 +135,8 @@ fn bind_all<R: Net>(
     Ok(sockets)
 }
 
-/// Opens the socket for SIP and those of all relay ports. Err where the system refuses one, or memory: those that were
-/// opened are closed then.
+/// Opens the socket for SIP and those of all relay ports. Err if the system refuses one, or memory runs out: those
+/// already opened are closed then.
 pub fn bind<R: Net>(rt: &R, alloc: Global, config: &Config) -> Result<Sockets, Unbound>
     ensures sip { IfOk result (λ s. s.sip ≡ no_traffic) }
     ensures relay { IfOk result (λ s. s.relay ≡ relay_ports config.now) }

@@ -9,11 +9,11 @@ use std::io;
 use std::io::ErrorKind;
 use std::time::Duration;
 
-/// So many milliseconds are waited at most.
+/// How many milliseconds are waited at most.
 const MAX_WAIT: u64 = 100;
 
-/// What waits for the sockets of one worker, and those that had a datagram when it was asked last and have not been
-/// read since. Sockets are named by their places among all relay sockets.
+/// What waits for the sockets of one worker, and those that had a datagram at the last wait and have not been read
+/// since. Sockets are named by their places among all relay sockets.
 #[derive(Drop)]
 pub(crate) struct Ready {
     poll: Poll,
@@ -34,8 +34,8 @@ impl Ready {
         })
     }
 
-    /// A datagram that is there, with the place of its socket and its length. A socket is read once until the system is
-    /// asked again, which tells of all that have more: so they take turns, and no receive finds nothing.
+    /// A datagram that is there, with the place of its socket and its length. A socket is read once until the system
+    /// is asked again, which reports all that have more. So they take turns, and no receive finds nothing.
     pub(crate) fn take(
         &mut self,
         sockets: &[UdpSocket],
@@ -54,7 +54,7 @@ impl Ready {
         Ok(None)
     }
 
-    /// Waits until a socket has a datagram, for a tenth of a second at most.
+    /// Waits until a socket has a datagram, for at most a tenth of a second.
     pub(crate) fn wait(&mut self) -> io::Result<()> {
         let limit = Duration::from_millis(MAX_WAIT);
         self.poll.poll(&mut self.events, Some(limit))?;
@@ -63,7 +63,7 @@ impl Ready {
     }
 }
 
-// A datagram at the socket of this place. None where none is there.
+// A datagram at the socket of this place. None if there is none.
 fn take_at(sockets: &[UdpSocket], place: usize, buffer: &mut [u8]) -> io::Result<Option<usize>>
     ensures { IfOk result (λ r. IfSome r (λ count. count ≤ length buffer.new)) }
 {
@@ -77,7 +77,7 @@ fn take_at(sockets: &[UdpSocket], place: usize, buffer: &mut [u8]) -> io::Result
     }
 }
 
-// Lists the places that are ready, the first last. One for which there is no memory is told of again.
+// Lists the places that are ready, the first last. One for which there is no memory is reported again.
 fn list_all(events: &Events, places: &mut Vec<usize>) {
     for event in events.iter() {
         let Token(place) = event.token();

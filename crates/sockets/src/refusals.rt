@@ -8,17 +8,17 @@ use std::alloc::{AllocError, Global};
 use std::io::ErrorKind;
 use std::marker::Model;
 
-/// So many are kept at most: then the earliest is forgotten, and may begin anew.
+/// How many are kept at most: beyond that the earliest is forgotten, and may begin again.
 const MAX_REFUSALS: usize = 16;
 
-/// An address to which the system refuses to send, and its first word for that.
+/// An address to which the system refuses to send, and the system's first reason.
 #[derive(Clone, Copy)]
 pub struct Refusal {
     pub to: Addr,
     pub why: ErrorKind,
 }
 
-/// Those that stand. Contracts see them in the order in which they began.
+/// The current refusals. Contracts see them in the order in which they began.
 #[derive(Drop)]
 pub struct Refusals {
     standing: Vec<Refusal>,
@@ -49,7 +49,7 @@ fn place_of(refusals: &[Refusal], to: Addr) -> Option<usize>
 }
 
 impl Refusals {
-    /// None stands. All room is made here.
+    /// No refusals. All room is made here.
     pub fn new(alloc: Global) -> Result<Refusals, AllocError>
         ensures { IfOk result (λ refusals. refusals ≡ []) }
     {
@@ -58,7 +58,7 @@ impl Refusals {
         Ok(Refusals { standing })
     }
 
-    /// A datagram went to this address: gives the refusal that ended by that. Takes no memory.
+    /// A datagram went to this address: returns the refusal that this ended. Takes no memory.
     pub fn sent(&mut self, to: Addr) -> Option<Refusal>
         ensures told { result ≡ ended self.old (place_of to self.old) }
         ensures left { self.new ≡ behind_sent self.old (place_of to self.old) }
@@ -67,8 +67,8 @@ impl Refusals {
         Some(self.standing.remove(place))
     }
 
-    /// A datagram to this address was refused: gives the refusal that began with that, if none stood for it. Takes no
-    /// memory.
+    /// A datagram to this address was refused: returns the refusal that this began, if there was none for it. Takes
+    /// no memory.
     pub fn refused(&mut self, to: Addr, why: ErrorKind) -> Option<Refusal>
         ensures told { result ≡ begun (record { to = to; why = why }) (place_of to self.old) }
         ensures left { self.new ≡ behind_refusal self.old (record { to = to; why = why }) (place_of to self.old) }

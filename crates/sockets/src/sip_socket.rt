@@ -16,7 +16,7 @@ use std::marker::Model;
 use std::time::Duration;
 
 /// A socket at the server's port for SIP, and what waits for it. It notes what it takes, and what it is asked to send
-/// and sends, for clauses alone.
+/// and sends, only for clauses.
 #[derive(Drop)]
 pub struct SipSocket {
     pub(crate) socket: UdpSocket,
@@ -31,7 +31,7 @@ pub struct SipSocket {
     pub(crate) failed: bool,
 }
 
-/// A datagram, with where it came from, if one is there and one was to be tried for.
+/// A datagram, with where it came from, if one is there and a receive was to be tried.
 fn receive_from(
     socket: &UdpSocket,
     tries: &mut Tries,
@@ -58,7 +58,7 @@ fn receive_from(
     }
 }
 
-/// Sends all of a datagram.
+/// Sends a whole datagram.
 pub(crate) fn send_all(socket: &UdpSocket, to: Addr, bytes: &[u8]) -> io::Result<()> {
     let sent = socket.send_to(bytes, to_system(to))?;
     if sent == bytes.len() {
@@ -77,9 +77,9 @@ impl Model for SipSocket {
 }
 
 impl SipSocket {
-    /// Takes a datagram into the buffer, and gives where it came from and its length in bytes. None where there is none
-    /// now, where one came by IPv6, or where nobody knows of one: `wait` asks, and returns at once where one is there.
-    /// What doesn't fit the buffer is cut off. Err is the system's refusal.
+    /// Takes a datagram into the buffer, and returns where it came from and its length in bytes. None if there is
+    /// none now, if one came by IPv6, or if none is known of: `wait` asks, and returns at once if one is there. What
+    /// doesn't fit the buffer is cut off. Err is the system's refusal.
     pub fn receive(&mut self, buffer: &mut [u8]) -> io::Result<Option<(Addr, usize)>>
         ensures fits { IfOk result (λ r. IfSome r (λ d. d.1 ≤ length buffer.new)) }
         ensures taken { MatchResult result (λ r. MatchOption r (self.new.taken ≡ self.old.taken) (λ d. self.new.taken ≡ self.old.taken ++ at_sip d.0 (take d.1 buffer.new) ∷ [])) (λ _. self.new.taken ≡ self.old.taken) }
@@ -107,7 +107,7 @@ impl SipSocket {
         }
     }
 
-    /// Sends a datagram. Err is the system's refusal, or that it took a part of the datagram alone.
+    /// Sends a datagram. Err is the system's refusal, or that it took only a part of the datagram.
     pub fn send(&mut self, to: Addr, bytes: &[u8]) -> io::Result<()>
         ensures asked { self.new.asked ≡ self.old.asked ++ at_sip to bytes.now ∷ [] }
         ensures sent { MatchResult result (λ _. self.new.sent ≡ self.old.sent ++ at_sip to bytes.now ∷ []) (λ _. self.new.sent ≡ self.old.sent) }
@@ -129,7 +129,7 @@ impl SipSocket {
         }
     }
 
-    /// Waits until a datagram is there, for so many milliseconds at most. Err is the system's refusal.
+    /// Waits until a datagram is there, for at most this many milliseconds. Err is the system's refusal.
     pub fn wait(&mut self, millis: u64) -> io::Result<()>
         ensures taken { self.new.taken ≡ self.old.taken }
         ensures asked { self.new.asked ≡ self.old.asked }

@@ -1,14 +1,14 @@
 //! How often a socket is read before the system is asked whether anything is there.
 
-/// So many receives are tried in a row at most.
+/// How many receives are tried in a row at most.
 const MAX_TRIES: u32 = 64;
 
-/// So often in a row all of them have to find a datagram before twice as many are tried.
+/// How often in a row all of them have to find a datagram before twice as many are tried.
 const TIMES_FULL: u32 = 16;
 
-/// How many receives are tried behind a question, how many of them are left, and how often in a row all of them found a
-/// datagram. A receive that finds nothing is lost, and where much comes each question is: so one receive is tried at
-/// first, twice as many where all found something for a while, and half as many where one did not.
+/// How many receives are tried after a question, how many of them are left, and how often in a row all of them found
+/// a datagram. A receive that finds nothing is wasted, and so is each question when much comes. So one receive is
+/// tried at first, twice as many if all found something for a while, and half as many if one did not.
 #[derive(Clone, Copy)]
 pub(crate) struct Tries {
     most: u32,

@@ -10,9 +10,9 @@ use std::{fmt, io};
 pub struct Unbound {
     /// Where, if it was at a port.
     pub place: Option<Addr>,
-    /// The system's word.
+    /// The system's kind of error.
     pub kind: ErrorKind,
-    /// The system's number, for what has no word.
+    /// The system's error number, for errors without a kind.
     pub code: Option<i32>,
 }
 

@@ -1,4 +1,4 @@
-//! Workers of the media, each on the sockets of its pairs.
+//! Media workers, each on the sockets of its pairs.
 
 ghost use Rattle.std.specs.Prelude.{◌≡◌, map, IfOk};
 ghost use Rattle.sockets.specs.Traffic.{no_traffic};
@@ -13,7 +13,7 @@ use relay::{Viewer, Worker};
 use std::alloc::{AllocError, Global};
 use std::sync::Arc;
 
-/// The worker of a viewer, on the sockets for which this waits.
+/// The worker for a viewer, on the sockets for which this waits.
 fn worker_of(
     alloc: Global,
     first: u16,
@@ -43,8 +43,8 @@ fn worker_of(
     }
 }
 
-/// A worker for each viewer, with what waits for its sockets. Err where memory is refused, or where the sockets are
-/// shared by fewer workers than there are viewers: all sockets are closed then, and the viewers are gone.
+/// A worker for each viewer, with what waits for its sockets. Err if memory is refused, or if the sockets are shared
+/// by fewer workers than there are viewers. All sockets are closed then, and the viewers are gone.
 pub fn workers_of(
     alloc: Global,
     relay: RelaySockets,

@@ -1,4 +1,4 @@
-//! The calls that stand.
+//! The live calls.
 
 use crate::entries::Entries;
 use text::Text;
@@ -8,11 +8,11 @@ use text::Text;
 pub enum CallPhase {
     /// The callee's telephone was asked.
     Calling,
-    /// The caller gave up, and the callee's telephone is told.
+    /// The caller gave up, and the callee's telephone is notified.
     Cancelling,
-    /// The callee's telephone took it, and the caller's ACK is awaited.
+    /// The callee's telephone answered, and the caller's ACK is awaited.
     Answered,
-    /// Both talk.
+    /// Both ends talk.
     Talking,
     /// One end asks to change the media.
     Changing,
@@ -29,11 +29,12 @@ pub enum Direction {
     Neither,
 }
 
-/// A medium of a call that was agreed to.
+/// A medium that a call agreed on.
 pub struct MediumStatus {
-    /// As `audio`.
+    /// Such as `audio`.
     pub kind: Text<'static>,
-    /// The first format of the answer: its encoding, as `opus/48000`, where the answer names one, else its number.
+    /// The first format of the answer: its encoding, such as `opus/48000`, if the answer names one, or otherwise its
+    /// number.
     pub codec: Text<'static>,
     pub direction: Direction,
 }
@@ -47,7 +48,7 @@ pub struct Flow {
     pub total: u64,
 }
 
-/// What is known of a call from outside it: when it began, and its media.
+/// What is known of a call from the outside: when it began, and its media.
 #[derive(Clone, Copy, Debug)]
 pub struct CallTraffic {
     /// The call's number.
@@ -61,13 +62,13 @@ pub struct CallTraffic {
 /// A call.
 pub struct CallStatus {
     pub number: u64,
-    /// The users at its ends; empty where a URI names none.
+    /// The users at its ends; empty if a URI names none.
     pub caller: Text<'static>,
     pub callee: Text<'static>,
     pub phase: CallPhase,
     /// In the order of the description; none before the first answer.
     pub media: Entries<MediumStatus>,
-    /// None where nobody counts it.
+    /// None if it is not counted.
     pub traffic: Option<CallTraffic>,
 }
 

@@ -1,5 +1,5 @@
-//! What a server is at a moment, as values that know nothing of messages and sockets: who is bound where, which calls
-//! stand, and how near the limits are. Moments are in milliseconds since the server's start.
+//! The state of a server at a moment, as values that know nothing of messages and sockets: who is bound where, which
+//! calls are live, and how close the limits are. Moments are in milliseconds since the server's start.
 #![tactic(auto)]
 
 mod call;

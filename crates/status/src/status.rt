@@ -1,4 +1,4 @@
-//! What a server is at a moment.
+//! The state of a server at a moment.
 
 use crate::call::CallStatus;
 use crate::entries::Entries;
@@ -9,7 +9,7 @@ use text::Text;
 /// How many events of a kind there were.
 #[derive(Clone, Copy, Debug)]
 pub struct EventCount {
-    /// As the line of counts names it: lower-case letters and `_`.
+    /// The name in the line of counts: lower-case letters and `_`.
     pub kind: &'static str,
     pub count: u64,
 }
@@ -21,7 +21,7 @@ pub struct DatagramCounts {
     pub from_callees: u64,
 }
 
-/// What a server is at a moment.
+/// The state of a server at a moment.
 pub struct Status {
     /// In milliseconds since the start.
     pub moment: u64,
@@ -50,7 +50,7 @@ impl Drop for Status {
     }
 }
 
-/// All that a page shows, lent.
+/// Everything that a page shows, lent.
 #[derive(Clone, Copy)]
 pub struct Overview<'a> {
     /// The server's version.

@@ -7,11 +7,11 @@ use text::Text;
 pub struct BindingStatus {
     /// The contact's URI, as it is written.
     pub contact: Text<'static>,
-    /// The rest of its life in whole seconds, rounded up.
+    /// The remaining lifetime in whole seconds, rounded up.
     pub seconds_left: u64,
 }
 
-/// A user, with the bindings that are not over, oldest first.
+/// A user, with the bindings that have not expired, oldest first.
 pub struct UserStatus {
     pub name: Text<'static>,
     pub bindings: Entries<BindingStatus>,

@@ -1,4 +1,4 @@
--- What a text says: its bytes, wherever they stand.
+-- What a text says: its bytes, wherever they are.
 use Rattle.std.specs.Prelude.{ℕ, List}
 use Rattle.text.specs.declared.text.Form.{Form}
 use Rattle.text.specs.declared.text.Form.TheVariants.{Lent, Own, Short}

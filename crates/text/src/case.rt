@@ -1,4 +1,4 @@
-//! Texts that are one but for the case of ASCII letters.
+//! Texts that are equal except for the case of ASCII letters.
 
 ghost use Rattle.std.specs.Prelude.{◌≡◌, IsTrue, ◌↔◌};
 ghost use Rattle.std.specs.Char.{to_ascii_lowercase};
@@ -10,8 +10,8 @@ fn same_letter(a: u8, b: u8) -> bool
     a == b || a.eq_ignore_ascii_case(&b)
 }
 
-/// Whether two texts are one but for the case of ASCII letters. Most names are written as they are looked for, so each
-/// byte is compared as it stands first. Takes no memory.
+/// Whether two texts are equal except for the case of ASCII letters. Most names are written the way they are looked
+/// up, so each byte is first compared as it is. Takes no memory.
 pub fn same_without_case(a: &[u8], b: &[u8]) -> bool
     ensures { IsTrue result ↔ (str_to_ascii_lowercase a.now ≡ str_to_ascii_lowercase b.now) }
 {

@@ -1,4 +1,4 @@
-//! A room for a short text while it is made.
+//! A buffer for a short text that is being made.
 
 ghost use Rattle.std.specs.Prelude.{◌≡◌, ◌+◌, ◌<◌, ◌≤◌, ◌++◌, [], ◌∷◌, IfOk, decimal, length};
 ghost use Rattle.text.specs.Limits.{max_in_room};
@@ -8,10 +8,10 @@ use itoa::Buffer;
 use std::alloc::{AllocError, Global};
 use std::marker::Model;
 
-/// So many bytes a text may have that is made in a room.
+/// The maximum number of bytes of a text that is made in a room.
 const MAX_IN_ROOM: usize = 64;
 
-/// Bytes that are put one behind the other, 64 at most: contracts see them as a list.
+/// Bytes that are put one after the other, at most 64: contracts see them as a list.
 #[derive(Drop)]
 pub struct Room {
     bytes: [u8; MAX_IN_ROOM],
@@ -40,7 +40,7 @@ impl Room {
         }
     }
 
-    /// Puts a byte behind the others, for which there is room. Takes no memory.
+    /// Appends a byte, for which there is room. Takes no memory.
     pub fn put_byte(&mut self, byte: u8)
         requires { length self.old < max_in_room }
         ensures { self.new ≡ self.old ++ byte ∷ [] }
@@ -49,7 +49,7 @@ impl Room {
         self.length += 1;
     }
 
-    /// Puts bytes behind the others, for which there is room. Takes no memory.
+    /// Appends bytes, for which there is room. Takes no memory.
     pub fn put(&mut self, bytes: &[u8])
         requires { length self.old + length bytes.now ≤ max_in_room }
         ensures { self.new ≡ self.old ++ bytes.now }
@@ -59,7 +59,7 @@ impl Room {
         self.length = end;
     }
 
-    /// Puts a number in plain decimals behind the others, with room for its 20 digits. Takes no memory.
+    /// Appends a number in plain decimals, with room for its 20 digits. Takes no memory.
     pub fn put_number(&mut self, number: u64)
         requires { length self.old + 20 ≤ max_in_room }
         ensures { self.new ≡ self.old ++ decimal number }
@@ -68,7 +68,7 @@ impl Room {
         self.put(buffer.format(number).as_bytes());
     }
 
-    /// The bytes as a text, which takes memory where they are more than stand in place.
+    /// The bytes as a text, which takes memory if there are more than fit inline.
     pub fn text(&self, alloc: Global) -> Result<Text<'static>, AllocError>
         ensures { IfOk result (λ t. t ≡ self.now) }
     {

@@ -1,11 +1,11 @@
-//! Short texts, whose bytes stand in place.
+//! Short texts, whose bytes are stored inline.
 
 ghost use Rattle.std.specs.Prelude.{◌≡◌, IfSome};
 
 use std::marker::Model;
 
-/// So many bytes stand in place at most: with their count and the form of a text they take 32 bytes, as a list's handle
-/// does with that form.
+/// The maximum number of bytes stored inline: with their count and the form of a text they take 32 bytes, as a list's
+/// handle does with that form.
 const MAX_IN_PLACE: usize = 30;
 
 /// The bytes of a short text.
@@ -27,7 +27,7 @@ impl Model for Short {
 }
 
 impl Short {
-    /// A copy of the bytes, where they are few.
+    /// A copy of the bytes, if they are few.
     pub(crate) fn of(bytes: &[u8]) -> Option<Short>
         ensures { IfSome result (λ short. short ≡ bytes.now) }
     {

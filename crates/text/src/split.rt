@@ -1,4 +1,4 @@
-//! The pieces of a text between separators that stand outside quotes and angle brackets.
+//! The pieces of a text between separators that are outside quotes and angle brackets.
 
 ghost use Rattle.std.specs.Prelude.{◌≡◌, ◌<◌, ◌==◌, ◌&&◌, ◌||◌, ◌++◌, length, map, IfOk, OnOk, IfSome};
 ghost use Rattle.std.specs.List.{position};
@@ -8,13 +8,13 @@ ghost use Rattle.text.specs.declared.split.Within.TheVariants.{Nothing};
 
 use std::alloc::{AllocError, Global};
 
-/// What a byte of a header's value stands in (RFC 3261 section 25.1: quoted-string, name-addr).
+/// What a byte of a header's value is inside (RFC 3261 section 25.1: quoted-string, name-addr).
 #[derive(Clone, Copy)]
 pub enum Within {
     Nothing,
     Angles,
     Quotes,
-    /// Behind a backslash in quotes.
+    /// After a backslash in quotes.
     Escape,
 }
 
@@ -22,7 +22,7 @@ impl Within {
     ghost use Rattle.std.specs.Prelude.{◌≡◌};
     ghost use Rattle.text.specs.Pieces.{next_within};
 
-    /// What the byte behind this one stands in.
+    /// What the byte after this one is inside.
     pub fn next(self, b: u8) -> Within
         ensures { result ≡ next_within self b }
     {
@@ -66,7 +66,7 @@ fn ends_piece(within: Within, b: u8, separator: u8) -> bool
     }
 }
 
-/// Where the first byte stands that ends a piece, or opens quotes or angle brackets.
+/// The place of the first byte that ends a piece, or opens quotes or angle brackets.
 fn place_of_mark(text: &[u8], separator: u8) -> Option<usize>
     ensures { result ≡ position (λ b. b == separator || b == 34 || b == 60) text.now }
 {
@@ -74,7 +74,7 @@ fn place_of_mark(text: &[u8], separator: u8) -> Option<usize>
         .position(|b| *b == separator || *b == b'"' || *b == b'<')
 }
 
-/// The first piece, and what stands behind the separator that ends it, if one does. Takes no memory.
+/// The first piece, and what comes after the separator that ends it, if one does. Takes no memory.
 pub fn cut_piece(text: &[u8], separator: u8) -> (&[u8], Option<&[u8]>)
     ensures pieces { pieces_behind separator result.0.now (option_copied result.1) ≡ pieces separator Nothing text.now }
     ensures shorter { IfSome result.1 (λ rest. length rest.now < length text.now) }
@@ -92,8 +92,8 @@ pub fn cut_piece(text: &[u8], separator: u8) -> (&[u8], Option<&[u8]>)
     (text, None)
 }
 
-/// Puts the pieces between separators that stand in nothing behind those that are there: one piece or more. Where
-/// memory runs out, some of them may have been put.
+/// Appends the pieces between separators that are inside nothing: one or more pieces. If memory runs out, some of
+/// them may have been appended.
 pub fn put_pieces<'a>(
     found: &mut Vec<&'a [u8]>,
     text: &'a [u8],
@@ -116,7 +116,7 @@ pub fn put_pieces<'a>(
     Ok(())
 }
 
-/// The pieces between separators that stand in nothing: one piece or more.
+/// The pieces between separators that are inside nothing: one or more pieces.
 pub fn pieces(alloc: Global, text: &[u8], separator: u8) -> Result<Vec<&[u8]>, AllocError>
     ensures { IfOk result (λ v. map (λ p. p.now) v.items ≡ pieces separator Nothing text.now) }
 {

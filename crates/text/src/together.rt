@@ -1,11 +1,11 @@
-//! Two values at once, or want of memory.
+//! Two values at once, or a lack of memory.
 
 ghost use Rattle.std.specs.Prelude.{◌≡◌, ◌⊎◌, IfOk, IfErr, Ok, Err};
 
 use std::alloc::AllocError;
 
-/// Both values, or want of memory. It is a function of every type: where values are kept one behind the other, letting
-/// one of them go is proved here once, and not at each way out of each caller. Takes no memory.
+/// Both values, or a lack of memory. It is generic over all types: if values are kept one after the other, dropping
+/// one of them is proved here once, and not at each exit of each caller. Takes no memory.
 pub fn both<A: Drop, B: Drop>(
     one: Result<A, AllocError>,
     other: Result<B, AllocError>,

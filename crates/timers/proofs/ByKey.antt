@@ -24,7 +24,7 @@ module _ {K : Type 0} (eq : K → K → Bool) (cmp : K → K → Ordering) (orde
   abbrev AreBehind : K → List (Timer K) → Type 0
   AreBehind key ts = AllByRecursion (λ t. cmp key t.key ≡ Less) ts
 
-  -- what is behind one that is not below a key is above that key
+  -- what comes after one that is not below a key is above that key
   not_below : (j i k : K) → cmp j i ≡ Less → is_lt (cmp j k) ≡ false → is_lt (cmp i k) ≡ false
   not_below j i k ji jk =
       elim (cmp i k) as (λ o. cmp i k ≡ o → is_lt o ≡ false) [
@@ -119,7 +119,7 @@ module _ {K : Type 0} (eq : K → K → Bool) (cmp : K → K → Ordering) (orde
   pub remove_at : IsEquivalence eq → (ts : List (Timer K)) (k : K) → KeysRise cmp ts → stands eq ts k ≡ true → remove ts (place_by_key cmp ts k) ≡ without eq ts k
   remove_at laws ts k h stood = rw (place_is ts k h stood) (remove_is eq k laws ts (rise_once laws ts h))
 
-  -- how the first key compares, and what of it stands
+  -- how the first key compares, and what it leaves set
   less_other : (j k : K) → cmp j k ≡ Less → eq j k ≡ false
   less_other j k e = below_other j k (ap is_lt e)
 

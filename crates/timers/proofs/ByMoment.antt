@@ -9,7 +9,7 @@ use Rattle.timers.specs.Queue.{MomentsRise, EachKeyOnce, put, moment, without}
 use Rattle.timers.proofs.Halving.{AllFail, IsParted}
 use Rattle.timers.proofs.Keys.{stands_same, without_none}
 
--- ---- parted by a moment
+-- ---- partitioned by a moment
 
 module _ {K : Type 0} (at : ℕ) where
   all_after : (t : Timer K) (ts : List (Timer K)) → at < t.at → AllByRecursion (λ s. t.at ≤ s.at) ts → AllFail (λ s. leb s.at at) ts
@@ -45,7 +45,7 @@ remove_behind x xs n = rw add_comm (rw add-one refl)
 drop_behind : {X : Type 0} (x : X) (xs : List X) (n : ℕ) → drop (1 + n) (x ∷ xs) ≡ drop n xs
 drop_behind x xs n = rw add_comm (rw add-one refl)
 
--- a timer that is inserted behind those that are due no later is put
+-- inserting a timer after those that are due no later is `put`
 pub put_is : {K : Type 0} (ts : List (Timer K)) (timer : Timer K) → insert ts (prefix_len (λ t. leb t.at timer.at) ts) timer ≡ put ts timer
 put_is [] timer = refl
 put_is (t ∷ ts) timer =
@@ -58,7 +58,7 @@ module _ {K : Type 0} (eq : K → K → Bool) (key : K) where
   abbrev is_key : Timer K → Bool
   is_key t = eq t.key key
 
-  -- the timer of a key stands among those with its moment
+  -- the timer of a key is among those with its moment
   place_is : (ts : List (Timer K)) (at : ℕ) → moment eq ts key ≡ Some at
       → position_or_len is_key ts ≡ prefix_len (λ t. ltb t.at at) ts + position_or_len is_key (drop (prefix_len (λ t. ltb t.at at) ts) ts)
   place_is [] at m = refl
@@ -88,7 +88,7 @@ module _ {K : Type 0} (eq : K → K → Bool) (key : K) where
         | false ↦ λ later. omega (arith, place_within ts at later)
       ] m
 
-  -- where each key stands once, the others are left
+  -- if each key occurs once, the others are left
   pub remove_is : IsEquivalence eq → (ts : List (Timer K)) → EachKeyOnce eq ts → remove ts (position_or_len is_key ts) ≡ without eq ts key
   remove_is laws [] once = refl
   remove_is laws (t ∷ ts) once =

@@ -1,4 +1,4 @@
--- A list that is parted by a test, and the place that halving finds in it.
+-- A list that is partitioned by a test, and the place that a binary search finds in it.
 use Rattle.std.proofs.Common.{◌≡◌, ℕ, ◌+◌, ◌<◌, ◌≤◌, Bool, true, false, List, [], ◌∷◌, length, ◌++◌, get_or, cond, eqb, Some, None, inl, inr, refl, sym, ap, ◌∙◌, true≢false, arith}
 use Prim.Native.Nat.{zero, suc}
 use denote.Param.Members.{Mut, MutLaws, post_steps}
@@ -21,7 +21,7 @@ module _ {X : Type 0} (p : X → Bool) where
   abbrev pub AllFail : List X → Type 0
   AllFail xs = AllByRecursion (λ x. p x ≡ false) xs
 
-  -- behind one that fails all fail
+  -- after one that fails, all fail
   abbrev pub IsParted : List X → Type 0
   IsParted [] = Unit {0}
   IsParted (x ∷ xs) = (p x ≡ false → AllFail xs) × IsParted xs
@@ -49,13 +49,13 @@ module _ {X : Type 0} (p : X → Bool) where
       let rest = point_is xs n (omega arith) (λ k d low high. point.0 (suc k) d (omega arith) (omega arith), λ k d low high. point.1 (suc k) d (omega arith) (omega arith)) in
       rw (point.0 zero x (omega arith) (omega arith)) (omega (arith, rest))
 
-  -- what `partition_point` answers, where each call of the closure answers as the test
+  -- what `partition_point` returns, if each call of the closure returns what the test does
   pub halved : {F : Type 0} {g : Mut F (Bor X × Unit {0}) Bool} {f : F} (xs : List X) (n : ℕ) → n ≤ length xs
       → ((q : X → Bool) → ComputesKey g q f → IsPartitionedBy q xs → IsPartitionPoint (λ y. q y ≡ true) (λ y. q y ≡ false) xs n)
       → IsParted xs → ((a : Bor X × Unit {0}) (r : Bool) (f' : F) → Called g f a r f' → (r ≡ p a.0.now) × (f' ≡ f)) → n ≡ prefix_len p xs
   halved xs n le clause h calls = point_is xs n le (IsPartitionPoint-from_clause p xs n clause (parted xs h) calls)
 
-  -- what a function over such a list answers, where it counts by each test that the closure computes
+  -- what a function over such a list returns, if it counts by each test that the closure computes
   pub counted : {F : Type 0} {g : Mut F (Bor X × Unit {0}) Bool} {f : F} (xs : List X) (n : ℕ)
       → ((q : X → Bool) → ComputesKey g q f → IsPartitionedBy q xs → n ≡ prefix_len q xs)
       → IsParted xs → ((a : Bor X × Unit {0}) (r : Bool) (f' : F) → Called g f a r f' → (r ≡ p a.0.now) × (f' ≡ f)) → n ≡ prefix_len p xs
@@ -75,7 +75,7 @@ module _ {X : Type 0} (p : X → Bool) where
       sym (ap p (get_or-append-add xs ys i d))
       ∙ h (length xs + i) (length xs + j) d (omega arith) (omega (arith, len)) (ap p (get_or-append-add xs ys j d) ∙ passes)
 
-  -- where one passes, all before it pass
+  -- if one passes, all before it pass
   front_passes : (xs : List X) (y : X) (ys : List X) → IsPartitionedBy p (xs ++ y ∷ ys) → p y ≡ true → prefix_len p xs ≡ length xs
   front_passes xs y ys h passes =
       let n = prefix_len p xs in
@@ -111,7 +111,7 @@ module _ {X : Type 0} (p : X → Bool) where
   none_behind [] y is fails = absurd (true≢false (ap is_some is))
   none_behind (z ∷ zs) y is fails = rw (sym (ap p (some_is y z is)) ∙ fails) refl
 
-  -- what a call of the closure answers
+  -- what a call of the closure returns
   pub test_is : {F : Type 0} {g : Mut F (Bor X × Unit {0}) Bool} {f : F} → MutLaws g → ComputesKey g p f
       → (x : Bor X) (r : Bool) → g.post f (x, tt) r → r ≡ p x.now
   test_is {g = g} {f = f} laws computes x r post =
@@ -119,14 +119,14 @@ module _ {X : Type 0} (p : X → Bool) where
       (computes.at ((x, tt) ∷ []) r step.0 step.1).0
 
   module _ {F : Type 0} {g : Mut F (Bor X × Unit {0}) Bool} {f : F} (xs ys : List X) (n : ℕ) (computes : ComputesKey g p f) where
-    -- the place that halving the back finds, whose first passes
+    -- the place that a search of the back finds, if its first passes
     pub place_in_back : (y : X) → Some y ≡ slice_get ys 0 → p y ≡ true → n ≤ length ys
         → ((q : X → Bool) → ComputesKey g q f → IsPartitionedBy q ys → IsPartitionPoint (λ z. q z ≡ true) (λ z. q z ≡ false) ys n)
         → IsPartitionedBy p (xs ++ ys) → length xs + n ≡ prefix_len p (xs ++ ys)
     place_in_back y is passes le clause h =
         point_in_back xs ys y n is passes (point_is ys n le (clause p computes (parted_back xs ys h))) h
 
-    -- and that halving the front finds, where none of the back passes
+    -- and the one that a search of the front finds, if none of the back passes
     pub place_in_front : prefix_len p ys ≡ 0 → n ≤ length xs
         → ((q : X → Bool) → ComputesKey g q f → IsPartitionedBy q xs → IsPartitionPoint (λ z. q z ≡ true) (λ z. q z ≡ false) xs n)
         → IsPartitionedBy p (xs ++ ys) → n ≡ prefix_len p (xs ++ ys)

@@ -1,4 +1,4 @@
--- What calls leave of a queue: moments rise, and each key stands once.
+-- What calls leave of a queue: moments rise, and each key occurs once.
 use Rattle.std.proofs.Common.{◌≡◌, ℕ, Bool, not, List, [], ◌∷◌, filter, option_map, refl, ap, ◌∙◌, subst}
 use Rattle.std.specs.Cmp.{IsEquivalence}
 use Rattle.std.proofs.lemmas.Bool.{le-leb}

@@ -1,4 +1,4 @@
-//! Timers in the order of their keys: where a key is, is found by halving.
+//! Timers in the order of their keys: a key is found by binary search.
 
 ghost use Rattle.std.specs.Prelude.{◌≡◌, ◌+◌, ◌<◌, ◌≤◌, true, false, slice_get};
 ghost use Rattle.std.specs.VecDeque.{deque_len, deque_capacity};
@@ -18,7 +18,7 @@ pub(crate) fn place_of<K: Ord + Copy>(keys: &VecDeque<Timer<K>>, key: K) -> usiz
     ring_partition_point(keys, |timer| timer.key < key)
 }
 
-// The moment of the timer at a place, where it is the key's.
+// The moment of the timer at a place, if it is the key's.
 pub(crate) fn moment_at<K: Ord + Copy>(
     keys: &VecDeque<Timer<K>>,
     place: usize,
@@ -40,7 +40,7 @@ pub(crate) fn moment<K: Ord + Copy>(keys: &VecDeque<Timer<K>>, key: K) -> Option
     moment_at(keys, place_of(keys, key), key)
 }
 
-// Puts a timer in place of its key's old one, whose place this is.
+// Replaces a key's old timer, whose place this is.
 pub(crate) fn replace<K: Ord + Copy>(keys: &mut VecDeque<Timer<K>>, place: usize, timer: Timer<K>)
     requires rise { KeysRise K.cmp keys.old.items }
     requires place { place ≡ place_by_key K.cmp keys.old.items timer.key }
@@ -52,7 +52,7 @@ pub(crate) fn replace<K: Ord + Copy>(keys: &mut VecDeque<Timer<K>>, place: usize
     keys[place] = timer;
 }
 
-// Puts a timer of a key that isn't set at the key's place.
+// Inserts a timer of a key that isn't set at the key's place.
 pub(crate) fn insert<K: Ord + Copy>(keys: &mut VecDeque<Timer<K>>, place: usize, timer: Timer<K>)
     requires bound { place ≤ deque_len keys.old }
     requires place { place ≡ place_by_key K.cmp keys.old.items timer.key }
@@ -65,7 +65,7 @@ pub(crate) fn insert<K: Ord + Copy>(keys: &mut VecDeque<Timer<K>>, place: usize,
     let _ = keys.insert(place, timer);
 }
 
-// Takes the timer of a key, and gives its moment, where it was set.
+// Removes the timer of a key, and returns its moment, if it was set.
 pub(crate) fn take<K: Ord + Copy>(keys: &mut VecDeque<Timer<K>>, key: K) -> Option<u64>
     requires { KeysRise K.cmp keys.old.items }
     ensures moment { result ≡ moment K.eq keys.old.items key }

@@ -1,4 +1,4 @@
-//! Timers in the order in which they are due: where a moment is, is found by halving.
+//! Timers in the order in which they are due: a moment is found by binary search.
 
 ghost use Rattle.std.specs.Prelude.{◌≡◌, ◌+◌, ◌<◌, ◌≤◌, Some, option_map, position, nat_le, nat_lt, drop};
 ghost use Rattle.std.specs.List.{position_or_len, prefix_len};
@@ -16,7 +16,7 @@ pub(crate) fn least_moment<K: Copy>(timers: &VecDeque<Timer<K>>) -> Option<u64>
     timers.front().map(|timer| timer.at)
 }
 
-// The first timer, where its moment is not after `now`.
+// The first timer, if its moment is not after `now`.
 pub(crate) fn first_due<K: Copy>(timers: &VecDeque<Timer<K>>, now: u64) -> Option<Timer<K>>
     ensures { result ≡ first_due timers.now.items now }
 {
@@ -44,7 +44,7 @@ fn first_at<K: Copy>(timers: &VecDeque<Timer<K>>, at: u64) -> usize
     ring_partition_point(timers, |timer| timer.at < at)
 }
 
-// Puts a timer behind all that are due no later.
+// Puts a timer after all that are due no later.
 pub(crate) fn put<K: Copy>(timers: &mut VecDeque<Timer<K>>, timer: Timer<K>)
     requires rise { MomentsRise timers.old.items }
     requires room { deque_len timers.old < deque_capacity timers.old }
@@ -64,7 +64,7 @@ fn first_from<K: Ord + Copy>(timers: &VecDeque<Timer<K>>, start: usize, key: K) 
     timers.range(start..).position(|timer| timer.key == key)
 }
 
-// How many timers stand from a place on before the first of a key.
+// How many timers, from a place on, come before the first of a key.
 fn steps_to<K: Ord + Copy>(timers: &VecDeque<Timer<K>>, start: usize, key: K) -> usize
     requires { start ≤ deque_len timers.now }
     ensures { result ≡ position_or_len (λ t. K.eq t.key key) (drop start timers.now.items) }
@@ -72,7 +72,7 @@ fn steps_to<K: Ord + Copy>(timers: &VecDeque<Timer<K>>, start: usize, key: K) ->
     first_from(timers, start, key).unwrap_or(timers.len() - start)
 }
 
-// The place of the timer of a key, which is due at a moment: it is looked for among those of that moment alone.
+// The place of the timer of a key, which is due at a moment: only those of that moment are searched.
 fn place_of<K: Ord + Copy>(timers: &VecDeque<Timer<K>>, key: K, at: u64) -> usize
     requires rise { MomentsRise timers.now.items }
     requires moment { moment K.eq timers.now.items key ≡ Some at }

@@ -1,4 +1,4 @@
-//! Where a list that is parted by a test changes sides.
+//! Where a list that is partitioned by a test changes sides.
 
 ghost use Rattle.std.specs.Prelude.{◌≡◌, ◌≤◌, Bool};
 ghost use Rattle.std.specs.VecDeque.{deque_len};
@@ -8,8 +8,8 @@ ghost use Rattle.std.specs.Fn.{ComputesKey};
 
 use std::collections::VecDeque;
 
-// How many items pass a test, where none passes behind one that fails. A ring lies in two slices, and the one with the
-// place is halved: each step of halving the ring itself asks which of them an item is in.
+// How many items pass a test that no item passes after one that fails. A ring is in two slices, and the one with the
+// place is searched: each step of a binary search on the ring itself would ask which of them an item is in.
 pub(crate) fn ring_partition_point<T, P: Fn(&T) -> bool + Copy>(
     list: &VecDeque<T>,
     test: P,

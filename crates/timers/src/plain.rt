@@ -1,4 +1,4 @@
-//! Timers in a plain list, the first due first. A key is looked for in all of it.
+//! Timers in a plain list, the first due first. Finding a key searches all of it.
 
 ghost use Rattle.std.specs.Prelude.{ℕ, List, ◌≡◌, ◌+◌, ◌<◌, ◌≤◌, [], true, OnOk, OnErr, IsOk, option_map, length, if◌then◌else◌};
 ghost use Rattle.std.specs.VecDeque.{deque_len, deque_capacity};
@@ -12,7 +12,7 @@ use std::alloc::{AllocError, Global};
 use std::collections::VecDeque;
 use std::marker::Model;
 
-/// The timers that are set, each key once. A timer stays until it is taken or cancelled, or its key is set anew: it
+/// The timers that are set, each key once. A timer stays until it is taken or cancelled, or its key is set again. It
 /// fires once, and never before its moment (RFC 3261 section 17 says which timers a transaction has).
 ///
 /// They are seen in the order in which they are due: by moment, and at equal moments in the order of setting.
@@ -30,7 +30,7 @@ impl<K: Ord> Model for Timers<K> {
 
     ghost view = { λ t. record { timers = t.timers.items; room = deque_capacity t.timers - deque_len t.timers } };
 
-    // Moments rise, and each key stands once.
+    // Moments rise, and each key occurs once.
     ghost invariant = { λ t. IsQueue K.eq t.timers.items };
 }
 
@@ -60,7 +60,7 @@ impl<K: Ord + Copy> Timers<K> {
         least_moment(&self.timers)
     }
 
-    /// The moment of a key in milliseconds, where it is set. Takes no memory.
+    /// The moment of a key in milliseconds, if it is set. Takes no memory.
     pub fn moment(&self, key: K) -> Option<u64>
         ensures { result ≡ moment K.eq self.now.timers key }
     {
@@ -70,8 +70,8 @@ impl<K: Ord + Copy> Timers<K> {
             .map(|timer| timer.at)
     }
 
-    /// The timer that is due first, of those whose moment is not after `now`, in milliseconds: the one with the least
-    /// moment, and at equal moments the one set first. Takes no memory.
+    /// The timer that is due first, among those whose moment is not after `now`, in milliseconds: the one with the
+    /// least moment, and at equal moments the one set first. Takes no memory.
     pub fn first_due(&self, now: u64) -> Option<Timer<K>>
         ensures first { result ≡ first_due self.now.timers now }
         ensures due { IsDue self.now.timers now result }
@@ -79,7 +79,7 @@ impl<K: Ord + Copy> Timers<K> {
         first_due(&self.timers, now)
     }
 
-    /// Takes the timer that is due first, of those whose moment is not after `now`, in milliseconds: its key is
+    /// Takes the timer that is due first, among those whose moment is not after `now`, in milliseconds: its key is
     /// cancelled. Takes no memory.
     pub fn take_due(&mut self, now: u64) -> Option<Timer<K>>
         ensures taken { result ≡ first_due self.old.timers now }
@@ -93,7 +93,7 @@ impl<K: Ord + Copy> Timers<K> {
         Some(timer)
     }
 
-    /// Ends the timer of a key, where it is set. Takes no memory, so it can't be refused.
+    /// Cancels the timer of a key, if it is set. Takes no memory, so it can't be refused.
     pub fn cancel(&mut self, key: K)
         ensures timers { self.new.timers ≡ without K.eq self.old.timers key }
         ensures room { self.old.room ≤ self.new.room }
@@ -101,14 +101,14 @@ impl<K: Ord + Copy> Timers<K> {
         remove_key(&mut self.timers, key)
     }
 
-    /// Sets the moment of a key, in milliseconds. A key that is set already is set anew: its old moment is gone, and at
-    /// equal moments it is due last. Only a key that is not set yet takes room. A refusal (no memory) leaves the timers
-    /// as they were.
+    /// Sets the moment of a key, in milliseconds. If a key is already set, its old moment is replaced, and at equal
+    /// moments it is due last. Only a key that is not set yet takes room. A refusal (no memory) leaves the timers as
+    /// they were.
     pub fn set(&mut self, key: K, at: u64) -> Result<(), AllocError>
         ensures ok { OnOk result (self.new.timers ≡ set K.eq self.old.timers key at) }
         ensures err { OnErr result (self.new.timers ≡ self.old.timers) }
 
-        // A key that is set, and one for which there is room, takes no memory.
+        // Setting a key that is already set, or for which there is room, takes no memory.
         ensures standing { stands K.eq self.old.timers key ≡ true → IsOk result }
         ensures room { 0 < self.old.room → IsOk result }
         ensures room_left { self.old.room
@@ -121,7 +121,7 @@ impl<K: Ord + Copy> Timers<K> {
         Ok(())
     }
 
-    /// Makes room for `n` keys more, or is refused for want of memory. It changes no timer.
+    /// Makes room for `n` more keys, or fails because memory ran out. It changes no timer.
     pub fn reserve(&mut self, n: usize) -> Result<(), AllocError>
         ensures timers { self.new.timers ≡ self.old.timers }
         ensures ok { OnOk result (n ≤ self.new.room) }
@@ -131,7 +131,7 @@ impl<K: Ord + Copy> Timers<K> {
         self.timers.reserve(n)
     }
 
-    /// How many keys more can be set without memory. Takes no memory.
+    /// How many more keys can be set without memory. Takes no memory.
     pub fn room(&self) -> usize
         ensures { result ≡ self.now.room }
     {
@@ -146,7 +146,7 @@ fn stands<K: Ord + Copy>(timers: &VecDeque<Timer<K>>, key: K) -> bool
     timers.iter().any(|timer| timer.key == key)
 }
 
-// Makes room for a key, where it isn't set.
+// Makes room for a key, if it isn't set.
 fn make_room<K: Ord + Copy>(timers: &mut VecDeque<Timer<K>>, key: K) -> Result<(), AllocError>
     ensures items { timers.new.items ≡ timers.old.items }
     ensures ok { OnOk result (deque_len timers.new

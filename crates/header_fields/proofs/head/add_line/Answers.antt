@@ -3,7 +3,7 @@ use Rattle.header_fields.specs.declared.headers.Header.{Header}
 use Rattle.header_fields.proofs.HeadSteps.{blank_step, is_room, named_step, begun_within, not_nil}
 use Rattle.header_fields.proofs.head.add_line.Goals as goal
 
--- one field more, behind room for it
+-- one field more, once there is room for it
 put : (old roomy new : List Header) (h field : Header) → roomy ≡ old → new ≡ roomy ++ h ∷ [] → h ≡ field → new ≡ old ++ field ∷ []
 put old roomy new h field same behind is = behind ∙ ap (λ (hs : List Header). hs ++ h ∷ []) same ∙ ap (λ (x : Header). old ++ x ∷ []) is
 

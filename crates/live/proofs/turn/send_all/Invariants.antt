@@ -3,7 +3,7 @@ use Rattle.live.specs.Sending.{Sends}
 use Rattle.live.specs.States.{OnlySends}
 use Rattle.live.proofs.turn.send_all.Given as goal
 
--- of the datagrams so far so many failed
+-- `failed` of the datagrams so far failed
 abbrev pub invariant-loop-datagram : goal.invariant-loop-datagram
 invariant-loop-datagram g l = record {
   sends : Sends (g.W.Wire.seen l.fn.wire).tried (g.W.Wire.seen l.wire).tried (take l.datagram-index l.datagrams) l.failed;

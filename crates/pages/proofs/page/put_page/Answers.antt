@@ -2,7 +2,7 @@ use Rattle.std.proofs.Common.{◌≡◌, ◌++◌, ℕ, List, append_assoc}
 use Rattle.pages.specs.Start.{PutsStart}
 use Rattle.pages.proofs.page.put_page.Goals as goal
 
--- three texts, one behind the other
+-- three texts, one after the other
 joined : (a t s b x y z : List ℕ) → x ≡ a ++ t → y ≡ x ++ s → z ≡ y ++ b → z ≡ a ++ (t ++ s ++ b)
 joined a t s b x y z h i j = rw (j, i, h) (simp append_assoc)
 

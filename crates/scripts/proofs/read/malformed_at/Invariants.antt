@@ -2,7 +2,7 @@ use Rattle.std.proofs.Common.{length}
 use Rattle.scripts.proofs.PlaceLaws.{Splits}
 use Rattle.scripts.proofs.read.malformed_at.Given as goal
 
--- events stand before what is left
+-- events come before what is left
 abbrev pub invariant-loop-rest : goal.invariant-loop-rest
 invariant-loop-rest l = Splits l.text l.rest
 

@@ -1,4 +1,4 @@
--- The table is held against the definition at each of the 256 bytes, by computing.
+-- The table is compared with the definition at each of the 256 bytes, by computing.
 use Rattle.std.proofs.Common.{refl, arith, not, nat_eq, get_or}
 use Rattle.std.proofs.lemmas.Bool.{agree_below_at}
 use Rattle.sdp.specs.declared.class.TheConstants.{TOKEN_CHARS}

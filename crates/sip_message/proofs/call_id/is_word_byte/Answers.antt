@@ -1,4 +1,4 @@
--- The table is held against the definition at each of the 256 bytes, by computing.
+-- The table is compared with the definition at each of the 256 bytes, by computing.
 use Rattle.std.proofs.Common.{refl, arith}
 use Rattle.text.proofs.ByteTables.{by_table}
 use Rattle.sip_message.specs.declared.call_id.TheConstants.{WORD_BYTES}

@@ -2,7 +2,7 @@ use Rattle.std.proofs.Common.{◌≡◌, ◌++◌, ◌∙◌, ℕ, List, [], ◌
 use Rattle.sip_uri.proofs.BeginLaws.{on_err}
 use Rattle.sip_uri.proofs.write.put_params.Goals as goal
 
--- a mark and a part behind what was written before
+-- a mark and a part after what was written before
 behind : (old written part : List ℕ) (mark : ℕ) → ((old ++ written) ++ mark ∷ []) ++ part ≡ old ++ (written ++ mark ∷ part)
 behind old written part mark = append_assoc (old ++ written) (mark ∷ []) part ∙ append_assoc old written (mark ∷ part)
 

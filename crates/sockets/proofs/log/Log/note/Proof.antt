@@ -1,4 +1,4 @@
--- A note changes nothing but what clauses see.
+-- A note changes nothing except what clauses see.
 use Rattle.sockets.proofs.Walks.{[], ◌∷◌, refl, proved, ftrue, flft, named, vunit, ‵, ◌⊛◌, ◌$◌, ◌∵◌, !, qed, done, move, keep, split, join, fsplit3, feq_i, suffices, frame, group, enter, of_opd, unit_lit, returns, alloc_all, pass_all, free_all, look_at, sets, u8, MutRef, mut_vals, mut_Tells, plain, nothing, opens, closes, Stays, walk_of, says, stay_ref, Goes-ref, ends_at, stay_dropped, Goes-dropped, uint_vals, uint_Tells, yes}
 use Rattle.std.proofs.Common.{◌++◌, w16}
 use denote.Builtin.{u16, SliceRefOf}
