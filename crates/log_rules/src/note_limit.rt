@@ -9,7 +9,7 @@ use std::marker::Model;
 const MOST_LOGGED: u32 = 10;
 
 /// How many events that strangers caused were logged in a second, and how many were left out since that was logged.
-#[derive(Clone, Copy)]
+#[derive(Drop)]
 pub struct NoteLimit {
     second: u64,
     logged: u32,

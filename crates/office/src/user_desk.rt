@@ -8,7 +8,7 @@ use std::fs::Files;
 use text::{Text, Texts};
 use user_file::{FileReport, UserFile, WaitingUsers};
 
-/// Between two looks at the file, in milliseconds.
+/// How long is waited between two checks of the file, in milliseconds.
 const BETWEEN_LOOKS: u64 = 2_000;
 
 /// What the signalling has of the file.
@@ -17,7 +17,7 @@ pub(crate) struct UserDesk {
     alloc: Global,
     watch: FileWatch,
     file: UserFile,
-    /// When it is looked at next, in milliseconds.
+    /// When it is checked next, in milliseconds.
     next_look: u64,
     waiting: WaitingUsers,
 }
@@ -31,7 +31,7 @@ fn refused_line(alloc: Global, fault: &Fault) -> Result<String, AllocError> {
 }
 
 impl UserDesk {
-    /// The desk of the file of a path, whose users were these at the start.
+    /// The desk for the file at a path, whose users were these at the start.
     pub(crate) fn new(
         alloc: Global,
         path: String,
@@ -54,7 +54,7 @@ impl UserDesk {
         format!(in self.alloc; "office: trouble is over: config\n").ok()
     }
 
-    /// Takes a report of the file, and gives the line that is to be logged of it.
+    /// Takes a report on the file, and returns the line to be logged for it, if any.
     fn take(
         &mut self,
         report: FileReport,
@@ -76,7 +76,7 @@ impl UserDesk {
         }
     }
 
-    /// What is to be reported of what the file says now.
+    /// What there is to report of the file now.
     fn read<R: Files + AllocGlobal>(&mut self, rt: &R) -> Result<Option<FileReport>, AllocError> {
         match fs::read(rt, self.watch.path()) {
             Ok(bytes) => self.file.read(&bytes),
@@ -84,7 +84,7 @@ impl UserDesk {
         }
     }
 
-    /// The line that is to be logged of the file, where it is another than at the last look.
+    /// The line to be logged for the file, if it has changed since the last check.
     fn look_at_file<R: Files + AllocGlobal>(
         &mut self,
         rt: &R,
@@ -101,8 +101,8 @@ impl UserDesk {
         }
     }
 
-    /// Looks at the file, where it is time, and gives the line that is to be logged of it. If memory is refused, the
-    /// next look does so.
+    /// Checks the file, if it is time, and returns the line to be logged for it. If memory is refused, the next check
+    /// does it.
     pub(crate) fn look<R: Files + AllocGlobal>(&mut self, rt: &R, now: u64) -> Option<String> {
         if now < self.next_look {
             return None;
@@ -122,12 +122,12 @@ impl UserDesk {
         self.waiting.hand_in(now).ok()?
     }
 
-    /// A round is over whose event was lost, or which had none: users that were handed in for it are handed in again.
+    /// A round is over that lost its event or had none: users that were handed in for it are handed in again.
     pub(crate) fn lose(&mut self) {
         self.waiting.lose();
     }
 
-    /// The agent took the event of a round: the line that tells of the users that were handed in for it, if any were.
+    /// The agent took the event of a round: returns the line for the users that were handed in for it, if any were.
     pub(crate) fn settle(&mut self) -> Option<String> {
         let change = self.waiting.settle()?;
         let (added, removed, count) = (change.added, change.removed, change.count);

@@ -58,34 +58,27 @@ impl UserFile {
         self.is_refused
     }
 
-    /// What is to be reported of a right file with these users.
-    fn report_of(&self, users: &[Text<'static>]) -> Result<Option<FileReport>, AllocError>
-        ensures { IfOk result (λ report. report ≡ right_report self.now users.now) }
+    /// The file is right, and these are its users.
+    fn accept(&mut self, users: &[Text<'static>]) -> Result<Option<FileReport>, AllocError>
+        ensures report { IfOk result (λ report. report ≡ right_report self.old users.now) }
+        ensures file { IfOk result (λ report. self.new ≡ users_after self.old report) }
+        ensures err { OnErr result (self.new ≡ self.old) }
     {
         let added = missing_count(users, self.users.as_slice());
         let removed = missing_count(self.users.as_slice(), users);
         if added == 0 && removed == 0 {
-            return Ok(self.is_refused.then_some(FileReport::RightAgain));
+            let was_refused = self.is_refused;
+            self.is_refused = false;
+            return Ok(was_refused.then_some(FileReport::RightAgain));
         }
+        let reported = keep_all(self.alloc, users)?;
+        self.users = keep_all(self.alloc, users)?;
+        self.is_refused = false;
         Ok(Some(FileReport::Users {
-            users: keep_all(self.alloc, users)?,
+            users: reported,
             added,
             removed,
         }))
-    }
-
-    /// The file is right, and these are its users.
-    fn accept(&mut self, users: Texts<'static>) -> Result<Option<FileReport>, AllocError>
-        ensures report { IfOk result (λ report. report ≡ right_report self.old users.entry) }
-        ensures file { IfOk result (λ report. self.new ≡ users_after self.old report) }
-        ensures err { OnErr result (self.new ≡ self.old) }
-    {
-        let report = self.report_of(users.as_slice())?;
-        if let Some(FileReport::Users { .. }) = &report {
-            self.users = users;
-        }
-        self.is_refused = false;
-        Ok(report)
     }
 
     /// The bytes say no configuration that keeps the rules.
@@ -117,7 +110,7 @@ impl UserFile {
         ensures err { OnErr result (self.new ≡ self.old) }
     {
         match read_config(self.alloc, bytes) {
-            Ok(config) => self.accept(config.users),
+            Ok(config) => self.accept(config.users.as_slice()),
             Err(ConfigError::OutOfMemory) => Err(AllocError),
             Err(_) => self.refuse(bytes),
         }
