@@ -153,7 +153,7 @@ pub record IsNew (c : Config) (s : Contents) : Type 0 where
   pub note : s.note ≡ Quiet
   pub registered : s.registered ≡ None
 
--- the first broken rule is reported; memory is requested where none is broken
+-- the first broken rule is reported; running out of memory is possible only where none is broken
 abbrev pub RefusesConfig : Config → ConfigError → Type 0
 RefusesConfig c OutOfMemory = first_broken c ≡ None
 RefusesConfig c RelayPorts = first_broken c ≡ Some RelayPorts

@@ -21,7 +21,7 @@ ghost use Rattle.message_laws.specs.Sending.{KnowsSent};
 use sip_writing::written_is_read;
 use trace_reading::bodies_describe;
 
-/// Of a new agent, and after any event of a datagram that came from an address: what the responses to each request
+/// For a new agent, and after any event of a datagram that came from an address: what the responses to each request
 /// repeat was read; the transaction of a call's open offer is live, without a final response, and no other call
 /// answers it; and each datagram that is sent is a request of the server's own, or a response that reads back as the
 /// one that it was dressed as. About the 200 to a REGISTER, this says only how it was made.

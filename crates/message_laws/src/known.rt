@@ -30,7 +30,7 @@ use sip_writing::written_is_read;
 use trace_reading::bodies_describe;
 use transactions::replies;
 
-/// Of a new agent, of whose events there is no trace, and after any event, whatever its number: each message of the
+/// For a new agent, of whose events there is no trace, and after any event, whatever its number: each message of the
 /// trace is that of its bytes; what was sent is in it; the texts of the server's own in it were made; the INVITEs and
 /// UPDATEs that the server began are in it, and those whose transactions are live are among them, each with a final
 /// response that was taken where it waits for none; and a transaction keeps a message of its own side. So it is after

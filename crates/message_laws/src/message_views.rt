@@ -63,7 +63,7 @@ pub fn requests_are_seen()
 }
 
 /// In a trace a response of the server's has branch, Call-ID, From tag, number and method of the request that it
-/// answers, and in To the request's tag, or where that has none the given one, but for a 100 (RFC 3261 section
+/// answers, and in To the request's tag, or where that has none the given one, except for a 100 (RFC 3261 section
 /// 8.2.6.2); the answer to an offer that reads back is its description, and no other response has one.
 pub fn responses_are_seen()
     ensures describes { (bytes : List ℕ) (parts : Parts) (source server : Addr) (status : ℕ) (tag : List ℕ) (description : Description) →
@@ -97,8 +97,8 @@ pub fn actions_are_seen()
     trace_reading::bodies_describe();
 }
 
-/// So it is of what a step of a call says, and of what a call says as it begins, where the media that the call keeps
-/// are known; and of a 2xx that no call takes.
+/// The same holds for what a step of a call says, and for what a call says as it begins, where the media that the
+/// call keeps are known; and of a 2xx that no call takes.
 pub fn steps_are_seen()
     ensures step { (ip : List ℕ) (table : transactions.Contents) (o : Occasion) (w : ComingValue) (c : StandingCall) (step : Step) →
         IsServerAddress ip → KnowsStep ip step →

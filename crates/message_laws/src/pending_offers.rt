@@ -7,7 +7,7 @@ ghost use Rattle.events.specs.declared.event.Event.{Event};
 ghost use Rattle.message_laws.specs.Knowing.{KnowsTokens};
 ghost use Rattle.message_laws.specs.Waiting.{KnowsWaiting};
 
-/// Of a new agent, and after any event: each INVITE and UPDATE of the server's own that has no final response is the
+/// For a new agent, and after any event: each INVITE and UPDATE of the server's own that has no final response is the
 /// open offer of the call that its tag names, or of no live call; the call counted its number, and in no leg a number
 /// was given twice.
 pub fn offers_are_awaited()

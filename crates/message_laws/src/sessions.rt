@@ -10,10 +10,10 @@ ghost use Rattle.events.specs.declared.event.Event.{Event};
 ghost use Rattle.plans.specs.Office.{Office};
 ghost use Rattle.message_laws.specs.Serving.{AreHeldByCalls, AreLed, AreStaged, AreTold, HasNoOtherRow, HeldByTheirCalls, HoldNoOthers, HoldTheirPairs, HoldersStand, KnowsServing};
 
-/// Of a new agent, whose configuration keeps the rules, and after any event: the pool serves each live call, in the
+/// For a new agent, whose configuration keeps the rules, and after any event: the pool serves each live call, in the
 /// server's range; the relay table leads each port that its session names as the session asks; only a live call holds
-/// a port, and it holds no pair but those of its session while no offer is open in it. So it is after any events of a
-/// new agent.
+/// a port, and it holds no pair but those of its session while no offer is open in it. The same holds after any
+/// events of a new agent.
 pub fn calls_are_served()
     ensures begins { (config : Config) (s : Contents) → KeepsRules config → IsNew config s → KnowsServing (office s) }
     ensures step { (s : Contents) (event : Event) → KnowsServing (office s) → KnowsServing (office (after s event)) }

@@ -120,7 +120,7 @@ takes_request s e r begun id place input leg tag =
 
 -- ---- a first INVITE
 
--- as many calls stand as may (the server's own)
+-- as many calls are live as may be (the server's own)
 abbrev pub max_calls : ℕ
 max_calls = 256
 

@@ -28,7 +28,7 @@ use trace_reading::{bodies_describe, bytes_say_all};
 
 /// A first INVITE that no rule refuses, to a user who is bound, with an offer that the relay carries, and for which
 /// there is room: in that step the caller gets 100, and the callee, at the address where it is bound, an INVITE without
-/// a To tag, with a matching offer. This holds after any events, where the INVITE came from an address and is no
+/// a To tag, with a matching offer. This holds after any events, where the INVITE came from an address and is not a
 /// repeat.
 pub fn first_invites_are_passed_on()
     ensures { (s : Contents) (event : Event) (t : List Datagram) (k : ℕ) → AgentStands s t k → (source : Addr) (bytes : List ℕ) (r : Request) (id : ℕ) →
@@ -45,7 +45,7 @@ pub fn first_invites_are_passed_on()
     calls_are_served();
 }
 
-/// An INVITE or UPDATE inside a dialog that is no repeat: in that step the other end gets a matching offer, in a
+/// An INVITE or UPDATE inside a dialog that is not a repeat: in that step the other end gets a matching offer, in a
 /// request of the same method; or it gets its final response from the server. One without an offer that can be read
 /// gets its final response. This holds after any events, where the request came from an address.
 pub fn later_requests_are_served()
@@ -61,10 +61,10 @@ pub fn later_requests_are_served()
     calls_are_served();
 }
 
-/// An INVITE or UPDATE inside a dialog that is no repeat, and to whom it goes: it came in the dialog with an end of a
-/// call, and in that step goes, by the same method, in the dialog with the other end of that call, to the address of
-/// its target; to an INVITE goes 100 before. Or its final response goes back to where it came from. Nothing else is
-/// sent. This holds after any events, where the request came from an address.
+/// An INVITE or UPDATE inside a dialog that is not a repeat, and to whom it goes: it came in the dialog with an end
+/// of a call, and in that step goes, by the same method, in the dialog with the other end of that call, to the
+/// address of its target; to an INVITE goes 100 before. Or its final response goes back to where it came from.
+/// Nothing else is sent. This holds after any events, where the request came from an address.
 pub fn later_requests_go_across()
     ensures { (s : Contents) (event : Event) (t : List Datagram) (k : ℕ) → AgentStands s t k → (source : Addr) (bytes : List ℕ) (r : Request) (id : ℕ) →
         IsSource source → BeginsTransaction s event source bytes r id → IsLaterRequest r → GoesAcross s.calls.calls r source (row s event) ⊎ GoesBack r source (row s event) }

@@ -32,7 +32,7 @@ pub record AreServers (slots : List (Option Transaction)) : Type 0 where
 
 -- ---- a change
 
--- a server transaction may begin: its request is no ACK, no live one has its key, and there is room
+-- a server transaction may begin: its request is not an ACK, no live one has its key, and there is room
 pub record IsFree (slots : List (Option Transaction)) (t : Transaction) : Type 0 where
   pub no_ack : is_method (codes "ACK") t.parts ≡ false
   pub new : list_any (is_asked t.parts) slots ≡ false
