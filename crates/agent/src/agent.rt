@@ -100,7 +100,7 @@ impl Model for Agent {
 }
 
 impl Agent {
-    /// The number of events by answer. Takes no memory.
+    /// How many events got each answer. Takes no memory.
     pub fn tally(&self) -> Tally
         ensures { result ≡ self.now.tally }
     {

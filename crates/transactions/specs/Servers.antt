@@ -1,4 +1,4 @@
--- Server transactions: no two have one key, and there are at most as many as may be.
+-- Server transactions: no two have one key, and there are at most as many as the limit.
 use Rattle.std.specs.Prelude.{◌≡◌, ◌≢◌, ◌≤◌, ◌<◌, ℕ, Bool, true, false, ◌&&◌, nat_eq, List, [], ◌∷◌, codes, Option, Some}
 use Rattle.std.specs.List.{list_any}
 use Rattle.std.specs.Cmp.Lexicographic.{pointwise}

@@ -34,7 +34,7 @@ use Rattle.media_laws.specs.Shows.{Went}
 
 -- ---- what asks among what is sent
 
--- after what is plain one alone asks
+-- after what is plain, only one asks
 only_last : (before : List Message) (went m : Message) (i : ℕ) → AllOf (λ m. IsTrue (is_plain offering m)) before → slice_get (before ++ went ∷ []) i ≡ Some m → IsTrue (asks offering m) → m ≡ went
 only_last [] went m zero plain there asks = sym (same_Some went m there)
 only_last [] went m (suc i) plain there asks = absurd (none-some m there)
