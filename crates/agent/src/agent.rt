@@ -108,7 +108,7 @@ impl Agent {
     }
 
     /// The current calls, in the order in which they began. Where the agent stands after a trace, those that were
-    /// answered, and that no end has left, are exactly the live ones of the trace, each once; where a leg of a call
+    /// answered, and that no end has left, are exactly the live ones of the trace, each once. Where a leg of a call
     /// has ended, both have, or the call is listed as one that an end has left. Takes no memory.
     pub fn calls(&self) -> &[StandingCall]
         ensures calls { result.now ≡ self.now.calls.calls }
@@ -173,8 +173,8 @@ impl Agent {
     }
 
     /// The number of the call that holds the pair of this port, used or reserved. Where the agent stands after a
-    /// trace, that call exists, and is the live one that names the pair; and while no offer is open in it, in the
-    /// trace, its session has the pair. Takes no memory.
+    /// trace, that call exists, and is the live one that names the pair. While no offer is open in it, in the trace,
+    /// its session has the pair. Takes no memory.
     pub fn holder(&self, port: u16) -> Option<u64>
         ensures holder { result ≡ holder_at self.now.calls.pool.holdings port }
         ensures live { (t : List Datagram) (k : ℕ) → AgentStands self.now t k → HoldsFor self.now.calls.calls t port result }

@@ -49,7 +49,7 @@ use sip_writing::written_is_read;
 use trace_reading::bytes_say_all;
 
 /// A step of a call that takes no offer and no fit answer does what the line of its signal says, and leads where that
-/// leads; its dialogs are the earlier ones, and its session and its open offer are kept or given up. The same holds
+/// leads. Its dialogs are the earlier ones, and its session and its open offer are kept or given up. The same holds
 /// for the call that is put in its place.
 pub fn signal_steps_are_lines()
     ensures step { (c : ServerCall) (n : Standing) (input : Input) (signal : Signal) (pool : Contents) (now : ℕ) → c.standing ≡ Some n →

@@ -55,7 +55,7 @@ pub fn steps_are_heard()
 }
 
 /// Where a call that the trace lists takes an input that is neither an offer nor a fit answer, as the agent's row
-/// says it, that is a move of the trace's calls, with what the transactions send before it; and after it the trace's
+/// says it, that is a move of the trace's calls, with what the transactions send before it. After it the trace's
 /// calls show the server's. What comes is what the trace took, and the calls afterwards are those of the row.
 pub fn takes_go_on()
     ensures { (s after : Office) (begun more : List Transaction) (t : List Datagram) (old : List Call) (k : ℕ) → StandsShown s begun t old k →

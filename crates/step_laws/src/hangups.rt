@@ -29,7 +29,7 @@ use trace_reading::{bodies_describe, bytes_say_all};
 /// A BYE of an end of an answered call that no end has left: in that step it gets 200, and the other end, in its own
 /// dialog and at its target's address, a BYE (`settled`). Where an offer is open, its request gets 487 between them
 /// (`offering`). Where the other end was sent a 200 whose ACK has not come, only the 200 to the BYE is sent
-/// (`unacknowledged`). Of a caller whose first INVITE has no final response, that INVITE gets 487 after the 200; and
+/// (`unacknowledged`). Of a caller whose first INVITE has no final response, that INVITE gets 487 after the 200.
 /// CANCEL goes where the INVITE was passed on to (`early`), but not before a provisional response came from there
 /// (`silent`). Nothing else is sent. This holds after any events, where the BYE came from an address, is not a
 /// repeat, and no rule refuses it.

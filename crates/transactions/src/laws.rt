@@ -23,7 +23,7 @@ ghost use Rattle.transactions.specs.Replies.{RepliesWhereTaken};
 ghost use Rattle.transactions.specs.Once.{stands, IsLeft, NewOnce};
 
 /// A request is new only where no server transaction of its key is live, and then one is. A call takes a transaction
-/// away where its line ends it, and nowhere else; so over any list of calls a request is not new again, nor is a copy
+/// away where its line ends it, and nowhere else. So over any list of calls a request is not new again, nor is a copy
 /// of it, while the transaction that it began lasts.
 pub fn once()
     ensures begins { (table : Contents) (request : Request) →
@@ -69,8 +69,8 @@ pub fn others_are_untouched()
     ensures { (table : Contents) (call : Call) → LeavesOthers table call }
 {}
 
-/// The final response of the core, except a 2xx to an INVITE, is kept over any calls while its transaction lasts;
-/// until the ACK comes, a copy of the request gets its bytes again, and timer G sends them again (RFC 3261 sections
+/// The final response of the core, except a 2xx to an INVITE, is kept over any calls while its transaction lasts.
+/// Until the ACK comes, a copy of the request gets its bytes again, and timer G sends them again (RFC 3261 sections
 /// 17.2.1 and 17.2.2).
 pub fn answers_are_repeated()
     ensures kept { (table : Contents) (id : ℕ) (response : Response) (now : ℕ) → KeepsFinal table id response now }
