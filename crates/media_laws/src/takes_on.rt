@@ -78,7 +78,7 @@ pub fn takes_go_on()
 }
 
 /// Where a timer is due that a call which the trace lists takes, of its own or of its request, the event is a move of
-/// the trace's calls, and after it the trace's calls show the server's, whatever is known after it as in each other
+/// the trace's calls. After it the trace's calls show the server's, whatever is known after it as in each other
 /// event.
 pub fn timers_go_on()
     ensures { (s after : Office) (begun more : List Transaction) (sent : List Sent) (t : List Datagram) (old : List Call) (k : ℕ) → StandsShown s begun t old k →

@@ -57,11 +57,11 @@ pub fn byes_are_passed_on()
     sent_is_read();
 }
 
-/// A CANCEL of a first INVITE without a final response: in that step it gets 200, the INVITE 487, and CANCEL goes where
-/// the INVITE was passed on to (`rung`), but not before a provisional response came from there (`silent`). One of an
-/// INVITE inside a call gets 200, and CANCEL goes to the other end likewise (`inside`, `inside_silent`): the INVITE
-/// waits for that end's final response. Nothing else is sent. This holds after any events, where the CANCEL came from
-/// an address and is not a repeat.
+/// A CANCEL of a first INVITE without a final response: in that step it gets 200, and the INVITE 487. CANCEL goes to
+/// where the INVITE was passed on (`rung`), but not before a provisional response came from there (`silent`). One of
+/// an INVITE inside a call gets 200, and CANCEL goes to the other end likewise (`inside`, `inside_silent`): the
+/// INVITE waits for that end's final response. Nothing else is sent. This holds after any events, where the CANCEL
+/// came from an address and is not a repeat.
 pub fn cancels_are_passed_on()
     ensures rung { (s : Contents) (event : Event) (t : List Datagram) (k : ℕ) → AgentStands s t k → (source : Addr) (bytes : List ℕ) (r : Request) (id : ℕ) →
         IsSource source → BeginsTransaction s event source bytes r id → (place : ℕ) (c : StandingCall) (n : Standing) → StandsAt s place c n → IsCancel s event r place →
