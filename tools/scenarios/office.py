@@ -101,19 +101,20 @@ def configuration(first, workers, further):
 
 
 @contextlib.contextmanager
-def started(program, workers, further="", has_page=False, limits=()):
+def started(program, workers, further="", has_page=False, limits=(), turns=0, error=None, prepare=None):
     """An office whose server starts with these workers and further lines of its configuration, by a command that begins
-    with the words of limits."""
+    with the words of limits. It ends after as many turns, where there are any; writes to this error, or else to a file;
+    and its process is prepared by this function."""
     with contextlib.ExitStack() as kept:
         first = kept.enter_context(reserved(IP, 2 + 2 * PAIRS))
-        error = kept.enter_context(tempfile.TemporaryFile("w+"))
+        error = error or kept.enter_context(tempfile.TemporaryFile("w+"))
         config = kept.enter_context(tempfile.NamedTemporaryFile("w", suffix=".toml"))
         config.write(configuration(first, workers, further + (f'status = "{IP}:{first + 1}"\n' if has_page else "")))
         config.flush()
         os.chmod(config.name, 0o644)
-        words = [*limits, program, "serve", "--config", config.name]
+        words = [*limits, program, "serve", "--config", config.name, *(["--turns", str(turns)] if turns else [])]
         since = time.time_ns() // 1_000
-        process = kept.enter_context(subprocess.Popen(words, stdout=subprocess.PIPE, stderr=error, text=True))
+        process = kept.enter_context(subprocess.Popen(words, stdout=subprocess.PIPE, stderr=error, text=True, preexec_fn=prepare))
         kept.callback(process.kill)
         yield Office(kept, (IP, first), config.name, process, error, since)
 
