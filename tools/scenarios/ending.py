@@ -10,7 +10,7 @@ from telephones.blocking import Failed, expect
 from telephones.ports import udp
 
 # Turns after which a server ends: some that take a few moments, while REGISTERs come without a pause, and a few.
-BUSY, FEW = 400, 5
+BUSY, FEW = 100, 5
 # Seconds in which a response comes, and in which a server ends whose standard error nobody reads.
 SOON, ENDED = 0.5, 2
 # The exit status where receiving fails; and how often it has to fail in a row, which takes as many datagrams.
