@@ -1,5 +1,5 @@
-"""What valgrind counts for one round of a bench task: the counts of a run of 20 rounds minus those of a run of 10, divided
-by 10. What a run does once, at its start and end, is in neither."""
+"""What valgrind counts for one round of a bench task: the counts of a run of 20 rounds minus those of a run of 10,
+divided by 10. What a run does once, at its start and end, is in neither."""
 import collections
 import json
 import subprocess

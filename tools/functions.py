@@ -1,5 +1,5 @@
-"""The functions of Rattle sources: where each is, and the name that a check gives it. Sources are laid out by rt fmt, so a
-line's indent tells what it ends."""
+"""The functions of Rattle sources: where each is, and the name that a check gives it. Sources are laid out by rt fmt,
+so a line's indent tells what it ends."""
 import re
 
 FN = re.compile(r"(?m)^( *)(?:pub(?:\([a-z]+\))? )?(?:const )?fn (\w+)")

@@ -1,5 +1,5 @@
-"""What every file must keep: laid out as rt fmt does; one concept, so 450 lines at most, Python too; comments within 120
-columns; and no tests except as data."""
+"""What every file must keep: laid out as rt fmt does; one concept, so 450 lines at most, Python too; comments within
+120 columns; and no tests except as data."""
 import glob
 import os
 import re

@@ -1,5 +1,6 @@
 """What this machine knows about wrong bodies, beside the proofs that it keeps: for each sum that a verdict depends on,
-whether the edit was refused, and whether it compiles. It is never committed: a verdict would trust anyone who wrote it."""
+whether the edit was refused, and whether it compiles. It is never committed: a verdict would trust anyone who wrote
+it."""
 import contextlib
 import os
 

@@ -1,4 +1,5 @@
-"""Phases of a run: commands whose last line counts what passed, one after another or side by side, each with its time."""
+"""Phases of a run: commands whose last line counts what passed, one after another or side by side, each with its
+time."""
 import os
 import re
 import subprocess
