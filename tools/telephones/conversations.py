@@ -8,9 +8,9 @@ KINDS = ("talked", "held", "busy", "declined", "cancelled")
 # nothing.
 VANISHES, IS_OFF = 50, 100
 REFUSALS = {"busy": 486, "declined": 603}
-# The longest seconds for which an end rings, talks and holds; and how often it speaks.
+# For how many seconds an end rings, talks and holds at most; and how often it speaks.
 RINGS, TALKS, HOLDS, SPEAKS = 1.0, 2.0, 1.0, 4
-# No call takes these seconds, whatever the line loses.
+# No call takes this many seconds, whatever the line loses.
 STUCK = 300
 
 

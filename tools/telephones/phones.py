@@ -19,7 +19,7 @@ class Phone:
     kind = None
     # What it can do besides calls with G.711.
     has = frozenset()
-    # Whether its microphone gives nothing here.
+    # Whether its microphone yields nothing here.
     is_mute = False
 
     def __init__(self, user, address, tone, folder, **wishes):
