@@ -1,4 +1,4 @@
-"""The page of a server, and requests that it lets go."""
+"""A server's page, and requests that it drops."""
 import contextlib
 import json
 import os
@@ -12,9 +12,9 @@ from telephones.blocking import expect
 
 # The datagrams of media in the call that the page shows, the caller's first.
 SPOKEN = (5, 3)
-# Seconds in which a snapshot for the page is made anew; and the connections that are made to it at once.
+# Seconds in which a new snapshot is made for the page; and the connections made to it at once.
 SHOWN, CROWD = 1.5, 1_000
-# Seconds: in which a head that doesn't end is let go, which is after five; and for which the client waits for that.
+# Seconds: in which a head that doesn't end is dropped, which is after five; and for which the client waits for that.
 LET_GO, WAITED = (4.5, 7), 10
 REFUSED = {
     b"GET /other HTTP/1.1\r\n\r\n": 404,
@@ -40,7 +40,7 @@ def until_closed(made):
 
 
 def status_of(response):
-    """The status of a response, and its body, whose length is the one that it says."""
+    """The status of a response, and its body, whose length must be the stated one."""
     head, _, body = response.partition(b"\r\n\r\n")
     found = re.match(rb"HTTP/1\.1 (\d+) ", head)
     length = re.search(rb"(?i)\r\nContent-Length: (\d+)", head)
@@ -95,7 +95,7 @@ def show_users(at, shown, phones):
 
 
 def refuse_requests(at):
-    """Each request that is refused has its status, and a slow one is dropped after five seconds."""
+    """Each refused request has its status, and a slow one is dropped after five seconds."""
     for request, status in REFUSED.items():
         found = status_of(fetch(at, request))[0]
         expect(found == status, f"{status} for {request[:20]}, not {found}")
@@ -106,7 +106,7 @@ def refuse_requests(at):
 
 
 def crowd(at):
-    """A thousand connections at once: those that are let go are closed, and nobody waits for them."""
+    """A thousand connections at once: those that are dropped are closed, and nobody waits for them."""
     made = []
     for _ in range(CROWD):
         connection = socket.socket()
@@ -119,7 +119,7 @@ def crowd(at):
 
 
 def show_a_page(program):
-    """A page is served where one is configured."""
+    """A page is served if one is configured."""
     with serving(program, 2, has_page=True) as office:
         at = office.page
         call = answered_call(*office.telephones())
