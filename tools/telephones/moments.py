@@ -12,7 +12,7 @@ from telephones.talking import T1, T2, WHOLE
 # Milliseconds after an event at which a transaction may end, at which one that has rung for long is given up, and at
 # which that is over, too.
 FORGETS, RINGS = (5_001, 32_001), (180_001, 212_002)
-# How often, and how many times, the loop looks for timers that were passed over.
+# How often, in milliseconds, timers that were passed over are looked for, and how many each time.
 SWEEPS, SWEPT = 600_000, 8
 # A request that is answered at once, and forgotten, from its own place: once the program notes it, all that was sent
 # before is carried out.
