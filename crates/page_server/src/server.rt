@@ -1,7 +1,7 @@
 //! The server.
 
 ghost use Rattle.std.specs.Prelude.{◌≡◌, ◌≤◌, [], length, All, IfOk, OnOk, OnErr};
-ghost use Rattle.page_server.specs.Held.{IsTimely, max_connections};
+ghost use Rattle.page_server.specs.Held.{IsBrief, IsTimely, Join, OneMayJoin, TurnsTo, max_connections};
 
 use crate::connection::new_connection;
 use crate::connections::Connections;
@@ -28,8 +28,8 @@ const LISTENER: Token = Token(0);
 
 const CLIENT: Token = Token(1);
 
-/// A server of pages. Contracts see what it holds: each connection, with since when it is at its stage, and how long it
-/// may stay so.
+/// A server of pages. Contracts see what it holds: each connection, with the moment of its accept, since when it is at
+/// its stage, which one that is, and how long it may stay so.
 #[derive(Drop)]
 pub struct PageServer {
     alloc: Global,
@@ -56,13 +56,9 @@ fn to_system(addr: Addr) -> SocketAddr {
 }
 
 /// A connection joins, if there is room for it.
-fn admit(
-    alloc: Global,
-    poll: &Poll,
-    connections: &mut Connections,
-    mut stream: TcpStream,
-    now: u64,
-) {
+fn admit(alloc: Global, poll: &Poll, connections: &mut Connections, mut stream: TcpStream, now: u64)
+    ensures { OneMayJoin now connections.old connections.new }
+{
     if connections.are_full() {
         return;
     }
@@ -73,13 +69,16 @@ fn admit(
 }
 
 /// Takes the connections that wait. Those for which there is no room are let go at once.
+#[tactic(auto, using(crate::proofs::ArrivalLaws::none_yet))]
 fn accept(
     alloc: Global,
     listener: &TcpListener,
     poll: &Poll,
     connections: &mut Connections,
     now: u64,
-) {
+)
+    ensures { Join now connections.old connections.new }
+{
     for _ in 0..MAX_ARRIVALS {
         let Ok((stream, _)) = listener.accept() else {
             return;
@@ -108,7 +107,8 @@ impl PageServer {
 
     /// Waits until something can be done, so many milliseconds at most, and does it at each connection. The moment is
     /// in milliseconds, and at most a turn old. Err is the system's refusal to wait: nothing was done then. Where
-    /// memory is refused, the connection that it was for is let go.
+    /// memory is refused, the connection that it was for is let go. Nobody gets time anew: each connection that was
+    /// there keeps the moment of its accept, and since when it is at its stage until it reaches the next.
     pub fn turn<S: PageSource>(
         &mut self,
         source: &mut S,
@@ -116,6 +116,8 @@ impl PageServer {
         wait_millis: u64,
     ) -> io::Result<()>
         ensures timely { OnOk result (All (IsTimely now) self.new) }
+        ensures brief { OnOk result (All (IsBrief now) self.new) }
+        ensures kept { OnOk result (TurnsTo now self.old self.new) }
         ensures few { length self.new ≤ max_connections }
         ensures err { OnErr result (self.new ≡ self.old) }
     {
