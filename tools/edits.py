@@ -1,7 +1,8 @@
 """Wrong bodies: edits crates/NAME/wrong-bodies/*.edit, each of which changes what a function does.
 
 An edit has a line `file: src/lib.rt` and pairs of lines `old: TEXT` and `new: TEXT`. Each old text occurs in that file
-once. If its first line is `by: calls`, no clause can see the change, and telephones judge it."""
+once. If no clause can see the change, its first line names who judges it
+instead of the prover: `by: calls` or `by: cases`."""
 import os
 import re
 
@@ -19,7 +20,8 @@ class Edit:
     def __init__(self, file, text, sources):
         self.file, self.text = file, text
         self.crate, self.name = file.split("/")[1], os.path.basename(file)
-        self.is_for_calls = text.startswith("by: calls\n")
+        first = text.partition("\n")[0]
+        self.judge = first.removeprefix("by: ") if first.startswith("by: ") else None
         self.pairs = [*pairs_of(text)]
         self.functions = set()
         for path, old, _ in self.pairs:
@@ -35,6 +37,8 @@ class Edit:
         """Why it can't be made in these sources; empty if it can."""
         if not self.name.endswith(".edit") or not self.pairs:
             return "it has no pair of old and new texts, or its name doesn't end in .edit"
+        if self.judge not in (None, "calls", "cases"):
+            return "its first line names no judge"
         if apply([self], sources) is None:
             return "an old text doesn't stand in its file of src/ once"
         return ""

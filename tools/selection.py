@@ -25,7 +25,7 @@ def passed_commit():
 def sums_of(texts, kit, uses):
     """The edits that the prover judges, by file, and the sum that the verdict on each depends on."""
     standing = Standing(texts, kit, uses)
-    edits = {edit.file: edit for crate, own in by_crate(texts).items() for edit in edits_of(crate, own) if not edit.is_for_calls}
+    edits = {edit.file: edit for crate, own in by_crate(texts).items() for edit in edits_of(crate, own) if not edit.judge}
     return edits, {file: standing.key(edit) for file, edit in edits.items()}
 
 

@@ -9,20 +9,23 @@ from scenarios.pace import becomes, slowed
 from telephones.blocking import expect
 from telephones.messages import status_of
 
-# The user that the file gains during a call, and the one that it loses.
-NEWCOMER, LEAVER = "200", "102"
+# The user that the file gains during a call, the one that it loses, and the one that later replaces the first.
+NEWCOMER, LEAVER, LATECOMER = "200", "102", "201"
 # Seconds in which the server has seen that, and for which a wrong file is left: it looks every two seconds.
 SEEN, LOOKED = 3, 5
 TROUBLE, OVER = "office: trouble: config: line 4: users: ", "office: trouble is over: config"
 
 
-def put_users(file, users):
-    """Writes a new configuration file with these users, as an editor does: another file takes its place."""
+def put_users(file, users, moment=None):
+    """Writes a new configuration file with these users, as an editor does: another file takes its place, whose
+    modification time is now, or this one, in nanoseconds."""
     with open(file, encoding="utf-8") as config:
         text = re.sub(r"(?m)^users = .*$", f"users = {json.dumps(users)}", config.read())
     with open(f"{file}.new", "w", encoding="utf-8") as config:
         config.write(text)
     os.chmod(f"{file}.new", 0o644)
+    if moment:
+        os.utime(f"{file}.new", ns=(moment, moment))
     os.replace(f"{file}.new", file)
 
 
@@ -88,6 +91,14 @@ class Change:
         put_users(self.file, [*reversed(self.users)])
         self.talk(lambda: self.told(OVER), slowed(SEEN))
 
+    def change_within_a_second(self):
+        """A file of the same size, whose modification time is a nanosecond later, is seen."""
+        users = [LATECOMER if user == NEWCOMER else user for user in reversed(self.users)]
+        put_users(self.file, users, os.stat(self.file).st_mtime_ns + 1)
+        latecomer = self.office.telephone(LATECOMER)
+        is_seen = self.talk(lambda: status_of(latecomer.register()) == 200, slowed(SEEN))
+        expect(is_seen, f"{LATECOMER} is registered within {SEEN} s")
+
     def expect_lines(self):
         """The server reported each change of the file once, and all media of the call were passed on."""
         becomes(lambda: len(self.told("call-ended")) == 2, LOGGED)
@@ -96,17 +107,18 @@ class Change:
         expect(ends and re.search(counts, ends[-1]), f"all media went on: {ends}")
         lines = self.told(("users-changed", "office: trouble"))
         changed = f"users-changed added=1 removed=1 count={len(self.users)}"
-        are_right = len(lines) == 3 and lines[0] == changed and lines[1].startswith(TROUBLE) and lines[2] == OVER
+        are_right = len(lines) == 4 and lines[1].startswith(TROUBLE) and [lines[0], *lines[2:]] == [changed, OVER, changed]
         expect(are_right, f"the lines on the file are {lines}")
 
 
 def change_users(program):
     """While two telephones talk, the configuration file gains a user and loses one; then it is wrong, and right
-    again."""
+    again; then it changes within a second."""
     with serving(program, workers=2) as office:
         change = Change(office)
         change.exchange_users()
         change.be_wrong()
+        change.change_within_a_second()
         end(change.call)
         time.sleep(LOGGED)
         change.expect_lines()
