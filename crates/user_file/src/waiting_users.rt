@@ -97,7 +97,7 @@ impl WaitingUsers {
         self.next_try = now.saturating_add(BETWEEN_TRIES);
         let users = keep_all(self.alloc, wanted.as_slice())?;
         self.are_handed_in = true;
-        Ok(Some(users))
+        Ok(Some(Texts::from_vec(users)))
     }
 
     /// A round is over that lost its event or had none: what was handed in for it wasn't taken. Takes no memory.
