@@ -1,6 +1,6 @@
 //! At most ten of the events that strangers cause are logged in a second.
 
-ghost use Rattle.std.specs.Prelude.{◌≡◌, ◌+◌, ◌/◌, ◌≤◌, ◌<◌, ◌==◌, List, [], ◌∷◌, IsTrue, nat_lt, if◌then◌else◌};
+ghost use Rattle.std.specs.Prelude.{◌≡◌, ◌-◌, ◌/◌, ◌≤◌, ◌==◌, ℕ, List, [], nat_lt, if◌then◌else◌};
 ghost use Rattle.log_rules.specs.NoteLimits.{Follows, after_question, logged_in, most_logged, with_logged};
 
 use std::marker::Model;
