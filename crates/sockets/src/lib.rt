@@ -4,8 +4,10 @@
 
 mod addresses;
 mod error_stream;
+mod last_call;
 mod log;
 mod media;
+mod number_log;
 mod ports;
 mod ready;
 mod refusals;
@@ -13,6 +15,7 @@ mod room;
 mod sip_socket;
 mod tries;
 mod unbound;
+mod waiter;
 mod workers;
 
 pub use error_stream::ErrorStream;
