@@ -1,4 +1,5 @@
 pub mod Answers
+pub mod ErrorStreams
 pub mod Logs
 pub mod Refusals
 pub mod Traffic

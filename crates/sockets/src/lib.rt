@@ -5,9 +5,11 @@
 mod addresses;
 mod error_stream;
 mod last_call;
+mod last_words;
 mod log;
 mod media;
 mod number_log;
+mod part_log;
 mod ports;
 mod ready;
 mod refusals;
@@ -19,6 +21,7 @@ mod waiter;
 mod workers;
 
 pub use error_stream::ErrorStream;
+pub use last_words::LastWords;
 pub use media::MediaSockets;
 pub use ports::{RelaySockets, Sockets, bind, worker_count};
 pub use refusals::{Refusal, Refusals};
