@@ -1,4 +1,5 @@
-"""What the compiler alone says of sources, without a proof: it finds an edit that doesn't compile, and misuses of the libraries."""
+"""What the compiler alone says about sources, without a proof: it finds edits that don't compile, and misuses of the
+libraries."""
 import contextlib
 import glob
 import os
@@ -12,20 +13,21 @@ from edits import apply, sources_of
 from memo import COMPILES
 from repository import text_of
 
-# What this takes of the toolchain's command.
+# What this uses of the toolchain's command.
 USED = {
     "rtlib.guarded": [],
     "rtlib.crates_below": ["top"],
     "rtlib.Crate.words": ["self", "flags", "tests", "keeps", "as_source"],
     "rtlib.RATTLE": None,
 }
-# No function has this name: so a check ends once the compiler has read all, and before any definition is.
+# No function has this name, so a check ends once the compiler has read everything, before any definition is checked.
 NOTHING = ["--jobs", "1", "--start", "no function"]
 ENDED = re.compile(r"(?m)^rattle: error: .* has no function `no function`")
 
 
 def read(rt, crate, folder):
-    """Whether the compiler takes the sources of a crate in a folder, over the sources of those below, and what it says."""
+    """Returns whether the compiler accepts a crate's sources in a folder, over the sources of those below, and what it
+    says."""
     words = [rt.rtlib.RATTLE, "check", *crate.words(NOTHING, as_source=True)]
     how = {"stdin": subprocess.DEVNULL, "stdout": subprocess.PIPE, "stderr": subprocess.STDOUT, "text": True, "errors": "replace"}
     said = subprocess.run([*rt.rtlib.guarded(), *words], cwd=folder, **how).stdout
@@ -33,7 +35,7 @@ def read(rt, crate, folder):
 
 
 def copy_with(crate, texts, folder):
-    """Copies a crate's sources into a folder, with these texts in place of its own."""
+    """Copies a crate's sources into a folder, with these texts instead of its own."""
     for part in ("src", "specs", "proofs"):
         if os.path.isdir(f"{crate.folder}/{part}"):
             shutil.copytree(f"{crate.folder}/{part}", f"{folder}/{part}")
@@ -43,13 +45,13 @@ def copy_with(crate, texts, folder):
 
 
 class Compiling:
-    """Edits that are compiled, as many as fit into one copy of their crate, and by halves where such a copy does not compile."""
+    """Compiles edits: as many as fit into one copy of their crate, and by halves if such a copy doesn't compile."""
 
     def __init__(self, rt, selection, memo):
         self.rt, self.selection, self.memo = rt, selection, memo
 
     def faults(self, crate, edits):
-        """Each of these edits of a crate that does not compile, with what the compiler says first."""
+        """Yields each of these edits of a crate that doesn't compile, with what the compiler says first."""
         left = [edit for edit in edits if not self.memo.knows(COMPILES, self.selection.sums[edit.file])]
         while left:
             group, texts = self.group(crate, left)
@@ -57,7 +59,7 @@ class Compiling:
             left = [edit for edit in left if edit not in group]
 
     def group(self, crate, left):
-        """As many edits as can be made together. Where two of them don't go together, halves of the group tell."""
+        """Compiles as many edits as can be made together. If two of them conflict, halves of the group are tried."""
         sources, texts, chosen = sources_of(crate.name, self.selection.texts), {}, []
         for edit in left:
             made = apply([edit], sources, texts)
@@ -81,7 +83,7 @@ class Compiling:
 
 
 def compile_all(rt, selection, memo, crates, files):
-    """Compiles these edits, crates side by side, and gives those that do not compile."""
+    """Compiles these edits, crates side by side, and returns those that don't compile."""
     compiling, chosen = Compiling(rt, selection, memo), {}
     for file in files:
         chosen.setdefault(selection.edits[file].crate, []).append(selection.edits[file])
@@ -91,13 +93,15 @@ def compile_all(rt, selection, memo, crates, files):
 
 
 def misuse_of(file):
-    """What a misuse is: the words that the compiler has to refuse it with, the libraries that it uses, and its source."""
+    """Returns the parts of a misuse: the words with which the compiler must refuse it, the libraries that it uses, its
+    source."""
     refused, uses, source = text_of(file).split("\n", 2)
     return refused.removeprefix("refused: ").strip(), uses.removeprefix("uses: "), source
 
 
 def misuses(rt):
-    """Compiles each misuse/*.misuse in a repository of copies of the sources: how many there are, and those not refused with their words."""
+    """Compiles each misuse/*.misuse in a repository of copies of the sources. Returns how many there are, and those not
+    refused with their words."""
     found = {os.path.basename(file).removesuffix(".misuse"): misuse_of(file) for file in sorted(glob.glob("misuse/*.misuse"))}
     with tempfile.TemporaryDirectory(prefix="misuse-") as top, contextlib.ExitStack() as kept:
         for sources in glob.glob("crates/*/src"):

@@ -1,5 +1,5 @@
-"""What valgrind counts of one round of a task of the bench: the counts of a run of 20 rounds less those of a run of 10,
-divided by 10. What a run does once, at its start and at its end, is in neither."""
+"""What valgrind counts for one round of a bench task: the counts of a run of 20 rounds minus those of a run of 10,
+divided by 10. What a run does once, at its start and end, is in neither."""
 import collections
 import json
 import subprocess
@@ -10,7 +10,7 @@ FEWER, MORE = 10, 20
 
 
 def words_of(task, rounds):
-    """The bench's words for a task, as 'plain 0' or 'invite', and a number of rounds."""
+    """Returns the bench's words for a task, such as 'plain 0' or 'invite', and a number of rounds."""
     name, *amounts = task.split()
     return [name, *amounts[:1], str(rounds), *amounts[1:]]
 
@@ -24,7 +24,7 @@ def run(options, program, words):
 
 
 def both_runs(options, output, program, task, read):
-    """What is read of the output of the run of fewer rounds, and of that of more."""
+    """Returns what is read from the output of the run of fewer rounds, and from that of more."""
     found = []
     with tempfile.TemporaryDirectory(prefix="counting-") as room:
         for rounds in (FEWER, MORE):
@@ -35,21 +35,21 @@ def both_runs(options, output, program, task, read):
 
 
 def a_round(fewer, more):
-    """The counts of one round, of those of both runs."""
+    """Returns the counts of one round, from those of both runs."""
     rounds = MORE - FEWER
     return collections.Counter({key: (it - fewer[key]) / rounds for key, it in more.items() if it != fewer[key]})
 
 
 class Profile:
-    """Instructions: at each address of each file; of each function alone, and with what it calls. And how often each
-    function is called."""
+    """Instructions: at each address of each file; of each function alone, and including what it calls. Also how often
+    each function is called."""
 
     def __init__(self):
         self.at, self.alone, self.whole, self.calls = (collections.Counter() for _ in range(4))
 
 
 def read_profile(lines):
-    """The profile that callgrind wrote. All instances of a generic function count as one function."""
+    """Returns the profile that callgrind wrote. All instances of a generic function count as one function."""
     found, file, function, callee, calls = Profile(), "", "", "", 0
     for line in lines:
         kind, _, value = line.rstrip("\n").partition("=")
@@ -70,7 +70,7 @@ def read_profile(lines):
 
 
 def profile_of(program, task):
-    """The profile of one round, by callgrind."""
+    """Returns the profile of one round, by callgrind."""
     options = ["--tool=callgrind", "--dump-instr=yes", "--compress-strings=no", "--compress-pos=no"]
     fewer, more = both_runs(options, "--callgrind-out-file", program, task, read_profile)
     found = Profile()
@@ -80,7 +80,7 @@ def profile_of(program, task):
 
 
 def read_copies(file):
-    """How many copies, and of how many bytes in all, DHAT saw at each place of the program."""
+    """Returns how many copies, and of how many bytes in all, DHAT saw at each place of the program."""
     seen, copies, size = json.load(file), collections.Counter(), collections.Counter()
     for place in seen["pps"]:
         where = tuple(seen["ftbl"][it] for it in place["fs"])
@@ -90,8 +90,8 @@ def read_copies(file):
 
 
 def copies_by_size(program, task):
-    """How many copies of each size memcpy and memmove make in a round, by DHAT. Copies of one place count with their
-    mean size."""
+    """Returns how many copies of each size memcpy and memmove make in a round, by DHAT. Copies at one place count with
+    their mean size."""
     options = ["--tool=dhat", "--mode=copy", "--num-callers=2"]
     fewer, more = both_runs(options, "--dhat-out-file", program, task, read_copies)
     copies, size = (a_round(less, all_) for less, all_ in zip(fewer, more))

@@ -1,24 +1,27 @@
-"""Wrong bodies: edits crates/NAME/wrong-bodies/*.edit, each of which turns what a function does.
+"""Wrong bodies: edits crates/NAME/wrong-bodies/*.edit, each of which changes what a function does.
 
-An edit has a line `file: src/lib.rt` and pairs of lines `old: TEXT` and `new: TEXT`. Each old text stands in that file once. Where its
-first line is `by: calls`, no clause can see what it turns, and telephones judge it."""
+An edit has a line `file: src/lib.rt` and pairs of lines `old: TEXT` and `new: TEXT`. Each old text occurs in that file
+once. If no clause can see the change, its first line names who judges it
+instead of the prover: `by: calls` or `by: cases`."""
 import os
 import re
 
 from functions import functions, functions_at, homes_of, proof_folder
 
 WORD = re.compile(r"[A-Za-z_]\w+")
-# A proof cites a call, a local or an arm of the code as c.NAME, c.CALL-NAME or c.in-NAME, and answers the goals of a call as NAME-GOAL.
+# A proof cites a call, a local or an arm of the code as c.NAME, c.CALL-NAME or c.in-NAME, and answers a call's goals as
+# NAME-GOAL.
 CITED = re.compile(r"(?m)(?:\bc\.(?:[\w+]+-)*)([A-Za-z_]\w*)|^(?:pub )?([A-Za-z_]\w*)-\w")
 
 
 class Edit:
-    """A wrong body: the texts that it exchanges, and the functions that it changes."""
+    """A wrong body: the texts that it replaces, and the functions that it changes."""
 
     def __init__(self, file, text, sources):
         self.file, self.text = file, text
         self.crate, self.name = file.split("/")[1], os.path.basename(file)
-        self.is_for_calls = text.startswith("by: calls\n")
+        first = text.partition("\n")[0]
+        self.judge = first.removeprefix("by: ") if first.startswith("by: ") else None
         self.pairs = [*pairs_of(text)]
         self.functions = set()
         for path, old, _ in self.pairs:
@@ -31,16 +34,18 @@ class Edit:
         return sorted({path for path, _, _ in self.pairs if path})
 
     def fault(self, sources):
-        """Why it can't be made in these sources; empty where it can."""
+        """Why it can't be made in these sources; empty if it can."""
         if not self.name.endswith(".edit") or not self.pairs:
             return "it has no pair of old and new texts, or its name doesn't end in .edit"
+        if self.judge not in (None, "calls", "cases"):
+            return "its first line names no judge"
         if apply([self], sources) is None:
             return "an old text doesn't stand in its file of src/ once"
         return ""
 
 
 def pairs_of(text):
-    """The path, the old text and the new one of each pair."""
+    """The path, the old text and the new text of each pair."""
     path = old = None
     for line in text.split("\n"):
         if line.startswith("file: "):
@@ -52,7 +57,7 @@ def pairs_of(text):
 
 
 def apply(edits, sources, made=()):
-    """The texts that these edits make, over those made before; none where an old text doesn't stand once."""
+    """Returns the texts that these edits make, over those made before; none if an old text doesn't occur once."""
     made = dict(made)
     for path, old, new in (pair for edit in edits for pair in edit.pairs):
         text = made.get(path, sources.get(path, ""))
@@ -82,7 +87,8 @@ def proofs_of(edit, texts):
 
 
 def names_cited(edit, texts):
-    """The names that an edit takes out of a function and that the function's proof files cite: a refusal for want of a name shows nothing."""
+    """The names that an edit removes from a function and that the function's proof files cite: a refusal because a name
+    is missing shows nothing."""
     sources = sources_of(edit.crate, texts)
     made = apply([edit], sources) or {}
     homes, cited = homes_of(sources), set()

@@ -1,4 +1,4 @@
-"""Floods of requests at a server on this computer, and a telephone that registers beside them. All addresses are of
+"""Floods of requests at a server on this computer, and a telephone that registers beside them. All addresses are in
 127.0.0.0/8."""
 import contextlib
 import dataclasses
@@ -11,11 +11,11 @@ import time
 
 NETWORK = "127.77.0.0/24"
 SERVER, TELEPHONE, STRANGER = ("127.77.0.1", 5060), "127.77.0.11", "127.77.0.12"
-# Where more than one address floods, they are of another network than the server's.
+# If more than one address floods, they are of another network than the server's.
 STRANGERS = "127.78.0.{}"
 DOMAIN = "office.example"
-# A request is first sent again after T1 seconds, then after twice as long each time, up to T2, and is given up after
-# the whole (RFC 3261 section 17.1.2).
+# A request is first retransmitted after T1 seconds, then after intervals that double up to T2, and is given up after
+# the whole time (RFC 3261 section 17.1.2).
 T1, T2, WHOLE = 0.5, 4.0, 32.0
 # How long a telephone rests after a 200, and what counts as a wait, in seconds.
 RESTS, IS_WAIT = 0.25, 0.05
@@ -41,8 +41,8 @@ CSeq: {number} {method}\r
 {more}Content-Length: 0\r
 \r
 """
-# The method of each kind of flood, and how its branches begin. The server refuses a branch as it was before RFC 3261
-# with 400, and begins no transaction.
+# The method of each kind of flood, and how its branches begin. The server refuses a branch from before RFC 3261 with
+# 400, and begins no transaction.
 KINDS = {
     "options": ("OPTIONS", "z9hG4bKflood"),
     "register": ("REGISTER", "z9hG4bKflood"),
@@ -61,7 +61,7 @@ class Flood:
     share: int | None = None
     log: str = "calls"
     has_rules: bool = False
-    # The seconds between two REGISTERs; without it, the telephone registers again when it has rested after a 200.
+    # The seconds between two REGISTERs; without it, the telephone registers again once it has rested after a 200.
     each: float | None = None
 
     def __str__(self):
@@ -73,14 +73,14 @@ class Flood:
 
 
 def be_urgent():
-    """Gives this process real-time priority where that is allowed."""
+    """Gives this process real-time priority if that is allowed."""
     with contextlib.suppress(PermissionError):
         os.sched_setscheduler(0, os.SCHED_FIFO, os.sched_param(PRIORITY))
 
 
 @contextlib.contextmanager
 def a_server(program, folder, flood):
-    """Has the program serve until this is left."""
+    """Has the program serve until the context ends."""
     office, said = f"{folder}/office.toml", f"{folder}/said"
     with open(office, "w", encoding="utf-8") as it:
         it.write(CONFIGURATION.format(ip=SERVER[0], port=SERVER[1], domain=DOMAIN, key="5a" * 32, log=flood.log))
@@ -105,7 +105,7 @@ def socket_at(ip):
 
 
 def pour(flood, count):
-    """Sends the requests of a flood, from each address in its turn, and counts them. Nobody reads the responses."""
+    """Sends the requests of a flood, from each address in turn, and counts them. Nobody reads the responses."""
     be_urgent()
     addresses = [STRANGER] if flood.sources == 1 else [STRANGERS.format(it + 1) for it in range(flood.sources)]
     sources = [socket_at(it) for it in addresses]
@@ -139,7 +139,7 @@ class Telephone:
         return text.encode(), f"branch=z9hG4bKtelephone{self.number};".encode()
 
     def response(self, branch, until):
-        """The status of a final response to the request of this branch, or 0 where none comes until then."""
+        """The status of a final response to the request of this branch, or 0 if none comes by then."""
         while (left := until - time.monotonic()) > 0:
             self.socket.settimeout(left)
             with contextlib.suppress(TimeoutError):
@@ -149,7 +149,7 @@ class Telephone:
         return 0
 
     def register(self, until):
-        """Registers once, and sends that request again until a response comes. Gives when it began."""
+        """Registers once, and retransmits that request until a response comes. Returns when it began."""
         (text, branch), began, interval, status = self.request(), time.monotonic(), T1, 0
         ends = min(until, began + WHOLE)
         while not status and (now := time.monotonic()) < ends:
@@ -168,7 +168,7 @@ class Telephone:
 
 
 def suffer(program, folder, flood):
-    """Has a telephone register beside a flood. Gives its waits, and how many requests the flood had."""
+    """Has a telephone register beside a flood. Returns its waits, and how many requests the flood had."""
     count = multiprocessing.Value("L", 0, lock=False)
     pouring = multiprocessing.get_context("fork").Process(target=pour, args=(flood, count))
     with a_server(program, folder, flood):

@@ -1,5 +1,5 @@
-"""The functions of Rattle sources: where each stands, and by what name a check speaks of it. Sources are laid out by rt fmt, so the
-indent of a line tells what it ends."""
+"""The functions of Rattle sources: where each is, and the name that a check gives it. Sources are laid out by rt fmt,
+so a line's indent tells what it ends."""
 import re
 
 FN = re.compile(r"(?m)^( *)(?:pub(?:\([a-z]+\))? )?(?:const )?fn (\w+)")
@@ -10,12 +10,12 @@ CONST = re.compile(r"(?m)^(?:pub(?:\([a-z]+\))? )?const (\w+)")
 
 
 def module_of(path):
-    """The module of a source, as src/a/b.rt is a::b."""
+    """The module of a source: src/a/b.rt is a::b."""
     return tuple(part for part in path[4:-3].split("/") if part not in ("lib", "main", "mod"))
 
 
 def homes_of(sources):
-    """The module of each type: a check names a type's own methods by it, wherever they stand."""
+    """The module of each type: a check names a type's own methods by it, wherever they are."""
     return {name: module_of(path) for path, text in sources.items() for name in TYPE.findall(text)}
 
 
@@ -26,7 +26,7 @@ def name_of(path, text, found, homes):
         return module_of(path), found[2]
     parameters, trait, kind = impls[-1][1], impls[-1][2], impls[-1][3]
     if not trait and kind in WITH_DEFAULT.findall(text):
-        # A type with a default parameter is named with the parameters of its impl.
+        # A type with a default parameter is named with its impl's parameters.
         owner = "+".join([kind, *re.findall(r"(?:^|, )(\w+)", parameters or "")])
         return homes.get(kind, module_of(path)), f"{owner}::{found[2]}"
     if trait:
@@ -44,7 +44,7 @@ def functions(path, text, homes):
 
 
 def functions_at(path, text, at, sources):
-    """The functions that a place of a source is in, or that use the constant that it is in."""
+    """The functions that contain a place of a source, or that use the constant that contains it."""
     homes = homes_of(sources)
     inside = [name for name, start, end in functions(path, text, homes) if start <= at < end]
     if inside:
@@ -58,6 +58,6 @@ def functions_at(path, text, at, sources):
 
 
 def proof_folder(function):
-    """Where the proof files of a function stand in its crate."""
+    """Where the proof files of a function are in its crate."""
     module, name = function
     return "/".join(["proofs", *module, *name.split("::")])

@@ -1,9 +1,9 @@
-"""The libraries that ./prove and `rt ci` keep on this machine: a check takes them as the next `rt ci` would, so that nothing below a crate is
-proved twice."""
+"""The libraries that ./prove and `rt ci` keep on this machine: a check takes them as the next `rt ci` would, so nothing
+below a crate is proved twice."""
 import os
 import shutil
 
-# What this takes of the toolchain's command.
+# What this uses of the toolchain's command.
 USED = {
     "rtlib.guarded": [],
     "handles_of": ["root"],
@@ -16,7 +16,7 @@ USED = {
 }
 # Where a check over kept libraries leaves what it proved, in the crate's out/.
 FOLDER = "gate-incremental"
-# Processor minutes that 1,000 lines of code take to prove, as docs/PERFORMANCE.md has them.
+# Processor minutes to prove 1,000 lines of code, as docs/PERFORMANCE.md has them.
 MINUTES = 5
 
 
@@ -25,7 +25,7 @@ class Libraries:
 
     def __init__(self, rt):
         root = os.getcwd()
-        # (its first call sets a signal's handler, which only the main thread may)
+        # (its first call sets a signal's handler, which only the main thread may do)
         rt.rtlib.guarded()
         rt.Crate.cuts_libraries = True
         rt.Crate.allowed = rt.handles_of(root)
@@ -33,7 +33,7 @@ class Libraries:
         self.kept = rt.Kept([*self.crates.values()])
 
     def lacking(self, crate):
-        """Gives a crate the libraries below it, and names those that are not kept as they stand."""
+        """Gives a crate the libraries below it, and names those that are not kept in their present form."""
         lacks = []
         for below in sorted(crate.below(), key=lambda found: len(found.below())):
             if below.name not in self.kept.rlibs and (lacks or not self.give(below)):
@@ -41,11 +41,12 @@ class Libraries:
         return lacks
 
     def has(self, crate):
-        """Gives a library and those below it to their folders, and tells whether all are kept as they stand."""
+        """Copies a library and those below it to their folders, and returns whether all are kept in their present
+        form."""
         return not self.lacking(crate) and (crate.name in self.kept.rlibs or self.give(crate))
 
     def give(self, crate):
-        """Gives a library's folder what is kept of it, and tells whether it could."""
+        """Copies what is kept of a library to its folder, and returns whether that succeeded."""
         shutil.rmtree(f"{crate.folder}/out/rlib", ignore_errors=True)
         os.makedirs(f"{crate.folder}/out", exist_ok=True)
         if not self.kept.give(crate, False, self.kept.key(crate)):
@@ -55,5 +56,5 @@ class Libraries:
 
 
 def minutes_of(crates):
-    """How many minutes of a processor the proofs of these crates take, by their lines."""
+    """How many processor minutes the proofs of these crates take, by their lines."""
     return round(MINUTES * sum(crate.count(rb"\n") for crate in crates) / 1000) or 1

@@ -1,4 +1,4 @@
-"""The program built from its sources, before any proof, and kept beside a sum of what it was built from."""
+"""The program built from its sources, without a proof, and kept beside a sum of what it was built from."""
 import contextlib
 import fcntl
 import glob
@@ -12,7 +12,8 @@ from toolchain import kit_line
 
 FOLDER = f"{TOP}/out/unproved"
 PROGRAM, SUM = f"{FOLDER}/office", f"{FOLDER}/sum"
-# A program of other sources has so many seconds to find a fault in the words or in the configuration, and these statuses tell of one.
+# A program of other sources has this many seconds to find a fault in the command line or in the configuration; these
+# statuses report one.
 SECONDS, FAULTS = 5, (2, 3)
 
 
@@ -31,14 +32,15 @@ def is_there():
 
 
 def is_current():
-    """Whether the program that is kept is of the sources as they stand."""
+    """Whether the kept program is of the present sources."""
     with contextlib.suppress(OSError), open(SUM, encoding="utf-8") as opened:
         return is_there() and opened.read() == sum_of_sources()
     return False
 
 
 def build():
-    """Builds the program and keeps it, unless it is there, and gives what is said where it can't be built. One build runs at a time."""
+    """Builds the program and keeps it, unless it is there; returns what is printed if it can't be built. One build runs
+    at a time."""
     os.makedirs(FOLDER, exist_ok=True)
     with open(f"{FOLDER}/lock", "w", encoding="utf-8") as lock:
         fcntl.flock(lock, fcntl.LOCK_EX)
@@ -56,7 +58,7 @@ def build():
 
 
 def fault_of(words):
-    """The fault that the program that is kept finds in these words or in their configuration; empty where it finds none."""
+    """The fault that the kept program finds in these words or in their configuration; empty if it finds none."""
     if words[:1] == ["serve"] and "--turns" not in words:
         words = [*words, "--turns", "0"]
     how = {"stdin": subprocess.DEVNULL, "stdout": subprocess.DEVNULL, "stderr": subprocess.PIPE, "text": True, "errors": "replace"}

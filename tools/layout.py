@@ -1,5 +1,5 @@
-"""What the house asks of every file: laid out as rt fmt does, of one concept and so of 450 lines at most, Python too; comments within 120
-columns; and no test but as data."""
+"""What every file must keep: laid out as rt fmt does; one concept, so 450 lines at most, Python too; comments within
+120 columns; and no tests except as data."""
 import glob
 import os
 import re
@@ -10,7 +10,7 @@ from toolchain import rattle
 
 MOST_LINES, MOST_COLUMNS = 450, 120
 COMMENT = re.compile(r" *(?://|--)")
-# Where Python stands.
+# Where Python files are.
 PYTHON = ("*", "tools/**/*", "examples/**/*.py")
 
 
@@ -32,7 +32,7 @@ def first_line(file):
 
 
 def faults_of(file):
-    """What a file breaks."""
+    """The rules that a file breaks."""
     lines = text_of(file).splitlines()
     if len(lines) > MOST_LINES:
         yield f"{file}: more than {MOST_LINES} lines"
@@ -46,12 +46,12 @@ def faults_of(file):
 
 
 def is_laid_out(files):
-    """Whether all of these files are as rt fmt lays them out; the compiler names those that are not."""
+    """Whether all of these files are laid out as rt fmt does; the compiler names those that are not."""
     return bool(files) and not subprocess.run([rattle(), "fmt", "--check", *files]).returncode
 
 
 def layout_faults():
-    """All that the files of the repository break."""
+    """All rules that the files of the repository break."""
     crates = {crate: sources(crate) for crate in sorted(libraries())}
     if not is_laid_out([file for files in crates.values() for file in files]):
         yield "run rt fmt in each crate of the files above"

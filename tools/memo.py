@@ -1,16 +1,17 @@
-"""What this machine knows of wrong bodies, beside the proofs that it keeps: of each sum that a verdict stands on, whether the edit was refused,
-and whether it compiles. It is never committed: a verdict would trust whoever wrote it."""
+"""What this machine knows about wrong bodies, beside the proofs that it keeps: for each sum that a verdict depends on,
+whether the edit was refused, and whether it compiles. It is never committed: a verdict would trust anyone who wrote
+it."""
 import contextlib
 import os
 
 NAME = "wrong-bodies"
 REFUSED, COMPILES = "refused", "compiles"
-# So many lines are read at most, the last ones.
+# At most this many lines are read, the last ones.
 MOST = 100_000
 
 
 class Memo:
-    """A file of lines, each a word and a sum. Where there is no folder for it, nothing is known and nothing is kept."""
+    """A file of lines, each a word and a sum. If there is no folder for it, nothing is known and nothing is kept."""
 
     def __init__(self, folder):
         self.file, self.lines = f"{folder}/{NAME}", set()

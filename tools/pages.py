@@ -1,4 +1,4 @@
-"""What README.md names: each command, path, key and line of the log has to exist."""
+"""What README.md names: each command, path, key and log line must exist."""
 import glob
 import os
 import re
@@ -6,7 +6,7 @@ import re
 from repository import libraries, text_of
 
 PAGE, OPERATORS, EXAMPLE = "README.md", "docs/OPERATORS.md", "examples/office.toml"
-# A command or a path; a key with its value; a plain word; a line of the log; a page that a link leads to, and its heading.
+# A command or a path; a key with its value; a plain word; a log line; a page that a link leads to, and its heading.
 PATH = re.compile(r"(?:\./)?[\w.-]+/[\w./-]*")
 KEY = re.compile(r"(\w+) = ")
 WORD = re.compile(r"[a-z_]+")
@@ -16,26 +16,27 @@ PAGES = re.compile(r"(?:docs|examples|tools|crates|rows)/[\w./-]*\w")
 
 
 def keys():
-    """The keys of the configuration, by the table for operators and by the example."""
+    """The keys of the configuration, from the table for operators and from the example."""
     table = text_of(OPERATORS).partition("\n| Key |")[2].partition("\n\n")[0]
     rows = re.findall(r"^\| (`\w+`(?:, `\w+`)*) \|", table, re.M)
     return {*re.findall(r"`(\w+)`", " ".join(rows)), *re.findall(r"^(?:# )?(\w+) = ", text_of(EXAMPLE), re.M)}
 
 
 def quoted():
-    """The words in quotes in the crate that writes the log."""
+    """The quoted words in the crate that writes the log."""
     text = "".join(text_of(file) for file in glob.glob("crates/server/src/**/*.rt", recursive=True))
     return set(re.findall(r'"([\w-]+)"', text))
 
 
 def known_words():
-    """The plain words that the page may name: keys, crates and the libraries that they use, and the toolchain's command."""
+    """The plain words that the page may name: keys, crates and the libraries that they use, and the toolchain's
+    command."""
     crates = libraries()
     return keys() | set(crates) | {name for names in crates.values() for name in names} | {"rt"}
 
 
 def is_there(path):
-    """Whether the path is that of a file or folder, of the repository or of each crate."""
+    """Whether the path is a file's or folder's, in the repository or in a crate."""
     return bool(os.path.exists(path) or glob.glob(f"crates/*/{path}"))
 
 
@@ -46,7 +47,7 @@ def headings(page):
 
 
 def readme_faults():
-    """Each name in README.md of something that is not there."""
+    """Each name in README.md of something that does not exist."""
     text, words = text_of(PAGE), known_words()
     spans = re.findall(r"`([^`]+)`", text) + re.findall(r"^    \$ (.*)$", text, re.M)
     for span in spans:

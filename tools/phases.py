@@ -1,4 +1,5 @@
-"""Phases of a run: commands whose last line counts what passed, one after another or side by side, each with the time that it took."""
+"""Phases of a run: commands whose last line counts what passed, one after another or side by side, each with its
+time."""
 import os
 import re
 import subprocess
@@ -14,14 +15,14 @@ def processors():
 
 
 def count_of(text, status):
-    """Both numbers of the last line that counts; one failed at least where the exit status is not 0."""
+    """Both numbers of the last line that counts; at least one failed if the exit status is not 0."""
     found = COUNTS.findall(text)
     passed, failed = map(int, found[-1]) if found else (0, 1)
     return passed, max(failed, 1) if status else failed
 
 
 class Phases:
-    """Counts what passed, and says what runs. Each line has the seconds since the start."""
+    """Counts what passed, and says what is running. Each line has the seconds since the start."""
 
     def __init__(self, name):
         self.name, self.began = name, time.monotonic()
@@ -37,7 +38,7 @@ class Phases:
         return not failed
 
     def run(self, what, words, shows=False, nice=0):
-        """Runs a command. What it says is shown as it comes, or else only where something fails."""
+        """Runs a command. Its output is shown as it comes, or else only if something fails."""
         began, text = time.monotonic(), ""
         how = {"stdin": subprocess.DEVNULL, "stdout": subprocess.PIPE, "stderr": subprocess.STDOUT, "text": True, "errors": "replace"}
         started = subprocess.Popen(["nice", "-n", str(nice), *words], **how)
@@ -51,17 +52,17 @@ class Phases:
         return self.count(what, began, passed, failed)
 
     def call(self, what, call):
-        """Runs a call that gives how many passed and how many failed."""
+        """Runs a call that returns how many passed and how many failed."""
         began = time.monotonic()
         return self.count(what, began, *call())
 
     def beside(self, *calls):
-        """Runs calls side by side, and tells whether all passed."""
+        """Runs calls side by side, and returns whether all passed."""
         with ThreadPoolExecutor(len(calls)) as pool:
             return all([done.result() for done in [pool.submit(call) for call in calls]])
 
     def end(self):
-        """Says what passed in all, and gives the exit status."""
+        """Says what passed in all, and returns the exit status."""
         self.say(f"in all, with {processors()} processors")
         print(f"{self.passed} passed, {self.failed} failed")
         return 1 if self.failed else 0

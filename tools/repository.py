@@ -5,12 +5,12 @@ import os
 import subprocess
 
 TOP = os.path.dirname(os.path.dirname(os.path.abspath(__file__)))
-# The sources that a verdict stands on.
+# The sources that a verdict depends on.
 KINDS = (".rt", ".antt", ".edit")
 
 
 def go_to_top():
-    """Every command works at the top of the repository."""
+    """Changes to the top of the repository, where every command works."""
     os.chdir(TOP)
 
 
@@ -20,13 +20,14 @@ def text_of(file):
 
 
 def libraries(text=None):
-    """Each crate of crates.txt, or of such a text, with the libraries that it uses, the repository's and the kit's."""
+    """Each crate of crates.txt, or of a text like it, with the libraries that it uses, the repository's and the
+    kit's."""
     lines = [line.partition("#")[0].partition(":") for line in (text or text_of("crates.txt")).splitlines()]
     return {name.split()[0]: used.split() for name, _, used in lines if name.strip()}
 
 
 def below(uses):
-    """Of each crate, the crates of the repository that it stands on."""
+    """For each crate, the crates of the repository that it depends on."""
     @functools.cache
     def found(name):
         direct = [used for used in uses[name] if used in uses]
@@ -36,24 +37,24 @@ def below(uses):
 
 
 def git(*words, given=""):
-    """What git prints."""
+    """Returns what git prints."""
     ran = subprocess.run(["git", *words], input=given.encode(), capture_output=True, check=True)
     return ran.stdout.decode(errors="replace")
 
 
 def commit_count():
-    """How many commits lead to this one: what is chosen anew at each commit turns by it."""
+    """How many commits lead to this one, which decides what is chosen anew at each commit."""
     return int(git("rev-list", "--count", "HEAD"))
 
 
 def is_ancestor(commit):
-    """Whether a word names a commit that this one stands on."""
+    """Whether a word names an ancestor of this commit."""
     ran = subprocess.run(["git", "merge-base", "--is-ancestor", commit, "HEAD"], capture_output=True)
     return ran.returncode == 0
 
 
 def texts_in_tree():
-    """The text of each source of the crates, as it stands on disk."""
+    """The text of each source of the crates, as it is on disk."""
     files = glob.glob("crates/*/*/**/*", recursive=True)
     return {file: text_of(file) for file in files if file.endswith(KINDS) and "/out/" not in file}
 

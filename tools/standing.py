@@ -1,9 +1,9 @@
-"""What the verdict on a wrong body stands on, as one sum: the edit; the sources that it changes, but for comments; of its crate's other
-sources and of the libraries below, the contracts, views, invariants and traits that have a name in those sources; the definitions that
-all these name, in the files that the sources import and in those that these import, through the crates; the proof files of the functions
-that it changes; the kit.
+"""What the verdict on a wrong body depends on, as one sum: the edit; the sources that it changes, except comments; the
+contracts, views, invariants and traits named in those sources, of its crate's other sources and of the libraries below;
+the definitions that all these name, in the files that the sources import and in those that these import, through the
+crates; the proof files of the functions that it changes; the kit.
 
-A check of a function reads no body of another function. So while the sum is the same, the prover says what it said."""
+A check of a function reads no body of another function. So while the sum is the same, the prover says the same."""
 import functools
 import hashlib
 import re
@@ -12,7 +12,7 @@ from edits import proofs_of
 from repository import below, by_crate, libraries
 
 COMMENT = re.compile(r"(?m)^ *(?://|--).*\n")
-# A line at which an item begins, in a source that rt fmt laid out; and the parts of a head.
+# A line at which an item begins, in a source laid out by rt fmt; and the parts of a head.
 BEGINS = re.compile(r"(?:#\[|pub\b|(?:const|unsafe|extern|safe) |fn |struct |enum |trait |impl\b|type |static |use |ghost |mod |macro_rules!|requires|#!\[)")
 FN = re.compile(r"( *)(pub )?(?:pub\(\w+\) )?(?:const )?(?:safe |unsafe )?fn (\w+)")
 TYPE = re.compile(r"(?:pub(?:\(\w+\))? )?(?:struct|enum|trait|type|const|static|unsafe trait) (\w+)")
@@ -27,7 +27,7 @@ DEFINES = re.compile(r"(?m)^ *(?:(?:pub|abbrev|unfoldable|data|record) )*([^\s:(
 
 
 class Item:
-    """A declaration of a source without the bodies of its functions, and the names by which others speak of it."""
+    """A declaration of a source without the bodies of its functions, and the names that others use for it."""
 
     def __init__(self, path, names, text, is_public, is_type):
         self.path, self.names, self.text, self.is_public, self.is_type = path, names, text, is_public, is_type
@@ -35,7 +35,7 @@ class Item:
 
 
 class Definition:
-    """A definition of a file, and the names that it gives: its own, and those of its constructors or fields."""
+    """A definition of a file, and the names that it introduces: its own, and those of its constructors or fields."""
 
     def __init__(self, path, text):
         self.path, self.text = path, text.strip()
@@ -50,8 +50,8 @@ def definitions_of(path, text):
 
 
 def without_body(lines):
-    """The head of a function: its signature and its contract. A clause stands deeper than the function, so a line at the function's own
-    indent that is `{`, or that ends the signature and opens a brace, begins the body."""
+    """The head of a function: its signature and its contract. A clause is indented deeper than the function, so the
+    body begins at a line at the function's own indent that is `{`, or that ends the signature and opens a brace."""
     indent, head = FN.match(lines[0])[1], []
     for at, line in enumerate(lines):
         head.append(line)
@@ -62,7 +62,7 @@ def without_body(lines):
 
 
 def chunks(lines, indent):
-    """Lines at this indent that begin an item, each with what stands under it and with its attributes."""
+    """Lines at this indent that begin an item, each with what is below it and with its attributes."""
     found, is_attribute = [], False
     for line in lines:
         here = line[len(indent) :]
@@ -76,13 +76,13 @@ def chunks(lines, indent):
 
 
 def without_attributes(lines):
-    """An item's lines from its first that is no attribute on."""
+    """An item's lines from the first that is no attribute."""
     start = next((at for at, line in enumerate(lines) if not line.lstrip().startswith("#[")), 0)
     return lines[start:]
 
 
 def seen_outside(lines):
-    """What others see of a type: of a struct with no public field its name alone, since they know it by its view."""
+    """What others see of a type: only the name of a struct without public fields, since they know it by its view."""
     is_closed = re.match(r"(?:pub(?:\(\w+\))? )?struct ", lines[0]) and not any(re.match(r" +pub ", line) for line in lines)
     return lines[:1] if is_closed else lines
 
@@ -120,7 +120,7 @@ def items_of(path, text):
 
 
 class Standing:
-    """The sources of one tree, and the sums that verdicts on its wrong bodies stand on."""
+    """The sources of one tree, and the sums that verdicts on its wrong bodies depend on."""
 
     def __init__(self, texts, kit, uses=None):
         self.kit = kit
@@ -132,7 +132,7 @@ class Standing:
                 self.items.setdefault(path.split("/")[1], []).extend(items_of(path, text))
 
     def key(self, edit):
-        """The sum that the verdict on this edit stands on."""
+        """The sum that the verdict on this edit depends on."""
         paths = [f"crates/{edit.crate}/{path}" for path in edit.paths()]
         parts = [self.kit, edit.text, *(self.code.get(path, "") for path in paths), *(self.around(path) for path in paths)]
         proofs = proofs_of(edit, self.of_crate[edit.crate])
@@ -140,7 +140,7 @@ class Standing:
 
     @functools.cache
     def around(self, path):
-        """The sum of what a source stands on outside itself."""
+        """The sum of what a source depends on outside itself."""
         items, source = self.named(path), self.code.get(path, "")
         files = self.imported(source).union(*(self.imported(self.heads(item.path)) for item in items))
         tokens = {*TOKEN.findall(source)}.union(*(TOKEN.findall(item.text) for item in items))
@@ -148,7 +148,7 @@ class Standing:
         return hashlib.sha256(repr((path.split("/")[1], parts)).encode()).hexdigest()
 
     def named(self, path):
-        """The items of other sources that have a name in this one, and the types that these name."""
+        """The items of other sources that this one names, and the types that these name."""
         crate, words = path.split("/")[1], {*WORD.findall(self.code.get(path, ""))}
         of_others = [item for name in {crate, *self.below.get(crate, ())} for item in self.items.get(name, ())]
         within = [item for item in of_others if item.path != path and (item.is_public or item.path.split("/")[1] == crate)]

@@ -1,5 +1,5 @@
-"""The toolchain's command rt as a module, for the commands of this repository. None of what they take of it is a public interface, so each
-names what it takes, and runs only where that is as it knows it."""
+"""The toolchain's command rt as a module, for the commands of this repository. Nothing that they use of it is a public
+interface, so each names what it uses, and runs only if that has the known form."""
 import functools
 import importlib.machinery
 import importlib.util
@@ -29,7 +29,7 @@ def kit():
 
 
 def kit_line():
-    """The line that identifies the kit, as `rt version` prints it; empty where there is none."""
+    """The line that identifies the kit, as `rt version` prints it; empty if there is none."""
     file = f"{kit()}/KIT-ID"
     if not os.path.isfile(file):
         return ""
@@ -38,7 +38,7 @@ def kit_line():
 
 
 def member(rt, name):
-    """What has this dotted name in the command; None where nothing has."""
+    """What has this dotted name in the command; None if nothing has."""
     return functools.reduce(lambda found, part: getattr(found, part, None), name.split("."), rt)
 
 
@@ -51,7 +51,7 @@ def is_known(rt, name, parameters):
 
 
 def toolchain(script, used):
-    """The command rt, if what the script takes of it is there with the parameters that it knows."""
+    """The command rt, if what the script uses of it is there with the parameters that it knows."""
     found = kit_line().split()[:1]
     if not set(found) & set(KITS):
         print(f"{script}: note: this script knows {' and '.join(KITS)}, and found {' '.join(found) or 'none'}", flush=True)
@@ -66,8 +66,8 @@ def toolchain(script, used):
 
 
 def look_up_once(kind):
-    """Has the crates below a crate looked up once, and the stamp of its text taken once where none is written. The command walks every path
-    of the graph at each look, which takes minutes of a run."""
+    """Has the crates below a crate looked up once, and the stamp of its text taken once if none is written. The command
+    walks every path of the graph at each look, which takes minutes of a run."""
     made, stamped, stamps = kind.below, kind.stamp, {}
 
     def below(crate):

@@ -1,8 +1,9 @@
 """Tries wrong bodies: the prover must refuse each.
 
-A function is proved from the contracts of those that it calls, so one check judges a wrong body in each of many functions. A function that
-only calls a refused one waits for the next check, and an edit that no shared check refuses is tried alone. What the first check of a crate
-that has many edits leaves is tried in parts, side by side, over what that check kept."""
+A function is proved from the contracts of those that it calls, so one check judges a wrong body in each of many
+functions. A function that only calls a refused one waits for the next check, and an edit that no shared check refuses
+is tried alone. If a crate has many edits, those that its first check leaves are tried in parts, side by side, over what
+that check kept."""
 import itertools
 import os
 import re
@@ -15,7 +16,7 @@ from edits import apply, sources_of
 from functions import proof_folder
 from memo import REFUSED
 
-# What this takes of the toolchain's command.
+# What this uses of the toolchain's command.
 USED = {
     "checked": ["crate", "texts", "flags", "kept"],
     "must_fail": ["crate", "edit", "flags", "kept"],
@@ -24,9 +25,9 @@ USED = {
     "REFUSED": None,
     "AT_LIMIT": None,
 }
-# How many edits of a crate there are for each part of it.
+# How many edits of a crate make one part of it.
 PART = 20
-# More than a crate has edits: those of a crate that has new ones are tried first.
+# More than a crate has edits: crates with new edits are tried first.
 FIRST = 10_000
 BY_NAME = "only because a proof file names"
 
@@ -40,8 +41,8 @@ def is_refused(said, crate, function):
 
 
 def is_open(line, said, function):
-    """Whether this line on a function tells of a goal of its own."""
-    # (a function whose own clause stays open may also call a refused one, of which the rest of the line tells)
+    """Whether this line about a function reports a goal of its own."""
+    # (a function whose own clause stays open may also call a refused one, which the rest of the line reports)
     if line.startswith("no proof: expected answers"):
         return "did not prove" in line
     if not line.startswith("not proved"):
@@ -51,7 +52,7 @@ def is_open(line, said, function):
 
 
 class Course:
-    """What the trials of a run have in common: the command, what is known, and whether one has failed, which ends the others."""
+    """What the trials of a run share: the command, what is known, and whether one has failed, which ends the others."""
 
     def __init__(self, rt, selection, memo, ends_at_failure):
         self.rt, self.selection, self.memo = rt, selection, memo
@@ -81,13 +82,14 @@ class Trial:
         self.say(edit, text)
 
     def note(self, edit, text):
-        """This edit is refused: that is known from now on."""
+        """Notes that this edit is refused."""
         self.refused.append(edit)
         self.course.memo.keep(REFUSED, self.course.selection.sums[edit.file])
         self.say(edit, text)
 
     def check(self, texts, functions, kept):
-        """The number of a check of these functions, in a copy of the crate with these texts, and what it says."""
+        """Returns the number of a check of these functions, in a copy of the crate with these texts, and what it
+        says."""
         number = next(self.checks)
         flags = ["--jobs", "1"]
         for module, name in sorted(functions):
@@ -99,7 +101,7 @@ class Trial:
         return number, ran.stdout
 
     def choose(self, left):
-        """As many edits as are in functions of their own, with their texts and these functions."""
+        """Returns as many edits as are in separate functions, with their texts and these functions."""
         texts, taken, chosen = {}, set(), []
         for edit in left:
             made = apply([edit], self.sources, texts) if edit.functions and not edit.functions & taken else None
@@ -108,7 +110,7 @@ class Trial:
         return texts, taken, chosen
 
     def batch(self, left, kept):
-        """Tries as many edits as one check judges, and gives those refused."""
+        """Tries as many edits as one check judges, and returns those refused."""
         texts, taken, chosen = self.choose(left)
         number, said = self.check(texts, taken, kept) if chosen else (0, "")
         done = []
@@ -120,7 +122,7 @@ class Trial:
         return done
 
     def alone(self, edit, kept):
-        """Tries an edit by itself, on the whole crate where its own functions are proved with it."""
+        """Tries one edit alone, on the whole crate if its own functions are proved with it."""
         number, said = self.check(apply([edit], self.sources), edit.functions, kept) if edit.functions else (0, "")
         if any(is_refused(said, self.crate.name, name) for name in edit.functions):
             self.note(edit, f"refused alone (check {number})")
@@ -136,7 +138,7 @@ class Trial:
             self.fail(edit, text)
 
     def begin(self):
-        """Tries as many edits as one check judges. The parts go on over what it kept."""
+        """Tries as many edits as one check judges. The parts continue from what it kept."""
         self.began, self.room = time.monotonic(), tempfile.TemporaryDirectory(prefix="wrong-bodies-")
         kept = f"{self.room.name}/kept"
         if self.start and os.path.isdir(self.start):
@@ -176,7 +178,7 @@ class Trial:
 
 
 def run(trials, rt):
-    """Runs trials side by side, and gives how many edits were refused and how many were not."""
+    """Runs trials side by side, and returns how many edits were refused and how many were not."""
     if trials:
         rt.in_lanes(dict(task for trial in trials for task in trial.tasks()))
     return sum(len(trial.refused) for trial in trials), sum(len(trial.faults) for trial in trials)

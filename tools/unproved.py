@@ -3,8 +3,8 @@
 
 The toolchain has no command that keeps such a program. So `rt try` runs from a copy of the kit in which one tool is a
 script. The script keeps the linked program, or the module that clang is to compile, and then fails, so that nothing is
-run. The kit's files and the words that clang is given are no public interface: each is compared with what stands here
-before it is used."""
+run. The kit's files and clang's arguments are no public interface: each is compared with the text here before it is
+used."""
 import os
 import shlex
 import shutil
@@ -14,17 +14,17 @@ import tempfile
 from optimised import UnknownForm, hints_of, lines_of_ci
 from toolchain import kit
 
-# The files of the kit that are used. Its command finds the kit by its own path, so a copy of the kit copies these two.
+# The kit files that are used. The command finds the kit by its own path, so a copy of the kit copies these two.
 COPIED = ("rt", "rtlib.py")
 LIBRARIES = ("c/libos_c.a", "c/liblibc_c.a")
 USED = ("bin/rt", "bin/rtlib.py", "bin/rattle-link", "toolchain/bin/clang", "toolchain/bin/ld.lld", *LIBRARIES)
 TARGET = "x86_64-unknown-linux-gnu"
-# The words that `rt try` gives clang for the program's module, but for --sysroot.
+# The arguments that `rt try` gives clang for the program's module, except --sysroot.
 CLANG = f"""--target={TARGET} -march=x86-64 -mllvm -no-trap-after-noreturn -ffunction-sections -fdata-sections
     -mllvm -trap-unreachable -mllvm -no-x86-call-frame-opt -mllvm -disable-machine-licm
     -mllvm -disable-postra-machine-licm -mllvm -sink-common-insts=false --no-default-config -no-canonical-prefixes
     -fintegrated-cc1 -fno-crash-diagnostics -Werror -c -x ir module.bc -o module.o -fPIE -O0 -fsanitize=address"""
-# The words that `rt ci` gives in place of some of them; it compiles the module's text here.
+# The arguments that `rt ci` gives instead of some of them; it compiles the module's text here.
 CLANG_OF_CI = {
     "-O0": "-O3 -Xclang -fmerge-functions -mllvm -mergefunc-use-aliases",
     "-fsanitize=address": "",
@@ -35,7 +35,7 @@ KEEPS_PROGRAM = """#!/bin/sh
 mv program {room}/program
 exit 1
 """
-# (the sanitizer is asked for where the program's module is compiled, and not where clang is tried out)
+# (the sanitizer is requested when the program's module is compiled, not when clang is tried out)
 KEEPS_MODULE = """#!/bin/sh
 for word; do
     if [ "$word" = -fsanitize=address ]; then
@@ -62,7 +62,7 @@ def known_kit():
 
 
 def link_files(folder, to, left_out):
-    """Makes a folder of links to what stands in another, but for these names."""
+    """Makes a folder of links to what is in another, except these names."""
     os.makedirs(to)
     for name in os.listdir(folder):
         if name not in left_out:
@@ -70,7 +70,7 @@ def link_files(folder, to, left_out):
 
 
 def copy_kit(room, tool, script):
-    """Makes a kit in a room, whose tool of this name is a script."""
+    """Makes a kit in a room; its tool of this name is a script."""
     source, copy = known_kit(), f"{room}/kit"
     link_files(source, copy, ("bin", "toolchain"))
     link_files(f"{source}/bin", f"{copy}/bin", COPIED)
@@ -85,15 +85,15 @@ def copy_kit(room, tool, script):
 
 
 def run_in(folder, words, **environment):
-    """Runs a command, and gives its exit status and what it said."""
+    """Runs a command, and returns its exit status and output."""
     how = {"stdin": subprocess.DEVNULL, "stdout": subprocess.PIPE, "stderr": subprocess.STDOUT}
     done = subprocess.run(words, cwd=folder, text=True, errors="replace", env={**os.environ, **environment}, **how)
     return done.returncode, done.stdout
 
 
 def keep(crate, room, tool, script, name):
-    """Has `rt try` build a crate's program by a kit with this script, and gives the file that the script keeps."""
-    # (one step, so that the toolchain's interpreter does not run the program first)
+    """Has `rt try` build a crate's program with a kit with this script, and returns the file that the script keeps."""
+    # (one step, so that the toolchain's interpreter doesn't run the program first)
     _, said = run_in(crate, [f"{copy_kit(room, tool, script)}/bin/rt", "try", "--steps", "1"], TMPDIR=room)
     if not os.path.isfile(f"{room}/{name}"):
         raise NotBuilt(said or "rt try said nothing, and built nothing")
@@ -119,7 +119,7 @@ def build_optimised(top, name, file):
 
 
 def write_optimised(room, folders):
-    """Writes the text of a room's module as `rt ci` would have it, with the hints of the crates in these folders."""
+    """Writes the text of a room's module as `rt ci` would, with the hints of the crates in these folders."""
     hints = {key: hint for folder in folders for key, hint in hints_of(folder).items()}
     clang = f"{known_kit()}/toolchain/bin/clang"
     words = [clang, "-S", "-emit-llvm", "-O0", "-Xclang", "-disable-llvm-passes", "-x", "ir", "module.bc", "-o", "-"]

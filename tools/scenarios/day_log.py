@@ -24,7 +24,7 @@ def keep_a_log(program):
             return [line for line in office.lines() if not line.startswith("office:")]
 
         spend_a_day(*office.telephones())
-        # (a line too many would be written in this time, too)
+        # (an extra line would be written in this time, too)
         time.sleep(LOGGED)
         becomes(lambda: len(told()) >= len(WORDS), LOGGED)
         log, notes = told(), notes_of(replayed(program, office))
@@ -75,7 +75,7 @@ def replayed(program, office):
 
 
 def notes_of(text):
-    """The lines of `replay --notes` but for what is sent, and for what stands at the end."""
+    """The lines of `replay --notes`, except what is sent, and what is at the end."""
     notes = []
     while text:
         line, _, text = text.partition(b"\n")

@@ -1,24 +1,24 @@
-"""Threads, memory and file descriptors that the system refuses to the server."""
+"""Threads, memory and file descriptors that the system refuses the server."""
 import os
 
 from scenarios.office import PAIRS, SECONDS, answered_call, end, speak, started
 from scenarios.pace import slowed
 from telephones.blocking import expect
 
-# The exit status of the program where it has too little memory or too few threads; and the statuses where the system
-# does not even load the program.
+# The program's exit status if it has too little memory or too few threads; and the statuses if the system doesn't even
+# load the program.
 NO_MEMORY, NOT_LOADED = 6, (1, 127, -9, -11)
 PROCESSES = [f"--nproc={most}" for most in (1, 2, 3, 4)]
 MEMORY = [f"--as={most << 20}" for most in (6, 8, 12, 16, 24, 32, 48)]
-# The exit status where no telephones can be served. Two workers need these descriptors: two sockets for each pair, one
-# for SIP, one with which each worker, the signalling and the log wait, the three standard streams, and one to spare.
+# The exit status if no telephones can be served. Two workers need these descriptors: two sockets for each pair, one for
+# SIP, one with which each worker, the signalling and the log wait, the three standard streams, and one to spare.
 NO_SOCKET, WORKERS = 5, 2
 NEEDED = 2 * PAIRS + 1 + WORKERS + 2 + 3 + 1
 
 
 def serve_within(program, limit):
-    """Where something is refused, the program ends with its status before it listens; else it carries a call."""
-    # (no limit of processes holds for the superuser)
+    """If something is refused, the program ends with its status before it listens; else it carries a call."""
+    # (no limit of processes applies to the superuser)
     as_nobody = ["setpriv", "--reuid=65534", "--regid=65534", "--clear-groups"] if os.geteuid() == 0 else []
     with started(program, workers=8, limits=[*as_nobody, "prlimit", limit]) as office:
         if office.process.stdout.readline():
@@ -32,7 +32,7 @@ def serve_within(program, limit):
 
 
 def serve_with_descriptors(program, most):
-    """Where the process may have too few descriptors, the program says how many it needs; else it carries a call."""
+    """If the process may have too few descriptors, the program says how many it needs; else it carries a call."""
     with started(program, workers=WORKERS, limits=["prlimit", f"--nofile={most}"]) as office:
         if most < NEEDED:
             status = office.process.wait(slowed(SECONDS))

@@ -21,11 +21,11 @@ PAYLOADS = (0, 1, 172, 1_500, 65_507)
 # Seconds of an idle computer: in which each message arrives; in which the program ends, or carries out a command; and
 # in which nothing may be heard after a call.
 TIMEOUT, SECONDS, OVER = 3, 20, 0.3
-# Seconds in which a line of the log is written, after what it says.
+# Seconds within which a line of the log is written, after what it reports.
 LOGGED = 2
 # A token of the server: a salt, and how many tokens came before.
 TOKEN = re.compile(r"\b([0-9a-f]{16})\.\d+\b")
-# An INVITE or a BYE from the server is sent for what the telephones sent last.
+# The server sends an INVITE or a BYE because of what the telephones sent last.
 FORWARDED = re.compile(r"(?:INVITE|BYE) [\s\S]*?z9hG4bK([0-9a-f]{16})\.")
 
 
@@ -60,7 +60,7 @@ class Witness(Telephone):
 
 
 class Office:
-    """A server that runs, what its telephones sent, and the salts that they saw."""
+    """A running server, what its telephones sent, and the salts that they saw."""
 
     def __init__(self, kept, where, config, process, error, since):
         self.kept, self.where, self.config, self.process, self.error = kept, where, config, process, error
@@ -70,7 +70,7 @@ class Office:
         self.day, self.salts = [], set()
 
     def listens(self):
-        """Whether it says so, as its first line."""
+        """Whether its first line says so."""
         line = self.process.stdout.readline()
         self.until = time.time_ns() // 1_000
         return line == f"listening {IP} {self.where[1]}\n"
@@ -86,7 +86,7 @@ class Office:
         return made
 
     def telephones(self, users=USERS[:2]):
-        """Telephones of these users, which are registered."""
+        """Telephones of these users, all registered."""
         made = [self.telephone(user) for user in users]
         for telephone in made:
             register(telephone)
@@ -101,19 +101,20 @@ def configuration(first, workers, further):
 
 
 @contextlib.contextmanager
-def started(program, workers, further="", has_page=False, limits=()):
+def started(program, workers, further="", has_page=False, limits=(), turns=0, error=None, prepare=None):
     """An office whose server starts with these workers and further lines of its configuration, by a command that begins
-    with the words of limits."""
+    with the words of limits. It ends after as many turns, where there are any; writes to this error, or else to a file;
+    and its process is prepared by this function."""
     with contextlib.ExitStack() as kept:
         first = kept.enter_context(reserved(IP, 2 + 2 * PAIRS))
-        error = kept.enter_context(tempfile.TemporaryFile("w+"))
+        error = error or kept.enter_context(tempfile.TemporaryFile("w+"))
         config = kept.enter_context(tempfile.NamedTemporaryFile("w", suffix=".toml"))
         config.write(configuration(first, workers, further + (f'status = "{IP}:{first + 1}"\n' if has_page else "")))
         config.flush()
         os.chmod(config.name, 0o644)
-        words = [*limits, program, "serve", "--config", config.name]
+        words = [*limits, program, "serve", "--config", config.name, *(["--turns", str(turns)] if turns else [])]
         since = time.time_ns() // 1_000
-        process = kept.enter_context(subprocess.Popen(words, stdout=subprocess.PIPE, stderr=error, text=True))
+        process = kept.enter_context(subprocess.Popen(words, stdout=subprocess.PIPE, stderr=error, text=True, preexec_fn=prepare))
         kept.callback(process.kill)
         yield Office(kept, (IP, first), config.name, process, error, since)
 
@@ -131,7 +132,7 @@ def register(telephone):
 
 
 def answered_call(caller, callee, length=0):
-    """A call that stands, by an INVITE of this length where one is given."""
+    """An answered call, by an INVITE of this length if one is given."""
     call = Call(caller, callee)
     call.dial(length)
     call.ring()
@@ -147,6 +148,6 @@ def speak(call):
 
 
 def end(call):
-    """The caller hangs up; nothing is heard after that."""
+    """The caller hangs up; nothing is heard afterwards."""
     call.hang_up()
     expect(call.is_over(slowed(OVER)), "nothing after the end")

@@ -1,11 +1,12 @@
-"""How much slower this computer is than an idle one, by exchanges between two processes, and how long to wait then."""
+"""How much slower this computer is than an idle one, measured by exchanges between two processes, and how long to wait
+then."""
 import multiprocessing
 import time
 
 from telephones.messages import Dialog, Identity, headers
 
 # Requests that each process reads and writes in an exchange; the exchanges; and the seconds that all take on an idle
-# computer. Before each exchange there is a pause, so that both processes have to be woken.
+# computer. There is a pause before each exchange, so that both processes must be woken.
 REQUESTS, EXCHANGES, IDLE = 20, 30, 0.06
 PAUSE = 0.005
 
@@ -29,7 +30,7 @@ def answer(line):
 
 
 def exchange(line):
-    """Both processes work in turn. Gives the seconds that it takes."""
+    """Both processes work in turn. Returns the seconds that this takes."""
     begun = time.monotonic()
     line.send_bytes(b"begin")
     line.recv_bytes()
@@ -51,7 +52,7 @@ def measured():
 
 
 def measure(least=1.0):
-    """Sets the factor by which this process waits longer, which is this one at least."""
+    """Sets the factor by which this process waits longer, at least this one."""
     global factor
     factor = max(least, measured())
     return factor
@@ -63,7 +64,7 @@ def slowed(seconds):
 
 
 def becomes(holds, seconds):
-    """Whether something becomes true within this many seconds of an idle computer."""
+    """Returns whether something becomes true within this many seconds of an idle computer."""
     end = time.monotonic() + slowed(seconds)
     while time.monotonic() < end:
         if holds():

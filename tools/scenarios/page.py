@@ -1,4 +1,4 @@
-"""The page of a server, and requests that it lets go."""
+"""A server's page, and requests that it drops."""
 import contextlib
 import json
 import os
@@ -6,16 +6,22 @@ import re
 import socket
 import time
 
-from scenarios.office import TIMEOUT, answered_call, end, serving, speak
+from scenarios.office import TIMEOUT, USERS, answered_call, end, serving, speak
 from scenarios.pace import becomes, slowed
+from scenarios.users import SEEN, put_users
 from telephones.blocking import expect
 
 # The datagrams of media in the call that the page shows, the caller's first.
 SPOKEN = (5, 3)
-# Seconds in which a snapshot for the page is made anew; and the connections that are made to it at once.
+# Seconds in which a new snapshot is made for the page; and the connections made to it at once.
 SHOWN, CROWD = 1.5, 1_000
-# Seconds: in which a head that doesn't end is let go, which is after five; and for which the client waits for that.
+# Seconds: in which a head that doesn't end is dropped, and a client that reads nothing of its response, which is after
+# five; and for which the client waits for that.
 LET_GO, WAITED = (4.5, 7), 10
+# The connections that the server has room for. With these users the page has so many bytes at least. Where clients have
+# such buffers and segments, in bytes, the systems take less than half of it before a client reads.
+PLACES, MANY_USERS, LONG = 32, [f"{number:03}".ljust(64, "x") for number in range(300)], 40_000
+BUFFER, SEGMENT = 1, 300
 REFUSED = {
     b"GET /other HTTP/1.1\r\n\r\n": 404,
     b"POST / HTTP/1.1\r\nContent-Length: 0\r\n\r\n": 405,
@@ -40,7 +46,7 @@ def until_closed(made):
 
 
 def status_of(response):
-    """The status of a response, and its body, whose length is the one that it says."""
+    """The status of a response, and its body, whose length must be the stated one."""
     head, _, body = response.partition(b"\r\n\r\n")
     found = re.match(rb"HTTP/1\.1 (\d+) ", head)
     length = re.search(rb"(?i)\r\nContent-Length: (\d+)", head)
@@ -95,7 +101,7 @@ def show_users(at, shown, phones):
 
 
 def refuse_requests(at):
-    """Each request that is refused has its status, and a slow one is dropped after five seconds."""
+    """Each refused request has its status, and a slow one is dropped after five seconds."""
     for request, status in REFUSED.items():
         found = status_of(fetch(at, request))[0]
         expect(found == status, f"{status} for {request[:20]}, not {found}")
@@ -105,8 +111,42 @@ def refuse_requests(at):
     expect(LET_GO[0] <= waited <= slowed(LET_GO[1]), f"a slow head is dropped after {waited:.1f} s")
 
 
+def ask_and_read_nothing(at):
+    made = socket.socket()
+    made.setsockopt(socket.IPPROTO_TCP, socket.TCP_MAXSEG, SEGMENT)
+    made.setsockopt(socket.SOL_SOCKET, socket.SO_RCVBUF, BUFFER)
+    made.connect(at)
+    made.sendall(b"GET / HTTP/1.1\r\n\r\n")
+    return made
+
+
+def is_served(at):
+    """Whether the server has room for a client. If not, it closes the connection at once."""
+    with contextlib.suppress(ConnectionError):
+        return fetch(at, b"GET /metrics HTTP/1.1\r\n\r\n") != b""
+    return False
+
+
+def outwait_readers(office, idle):
+    """Clients that read nothing of a long page take all room, and are let go after five seconds. The page is there
+    again then. The server has this many descriptors when it has no client."""
+    at = office.page
+    put_users(office.config, [*USERS, *MANY_USERS])
+    expect(becomes(lambda: len(get(at, "/")) >= LONG, SEEN + SHOWN), f"the page has {LONG} bytes")
+    time.sleep(SHOWN)
+    with contextlib.ExitStack() as kept:
+        begun = time.monotonic()
+        for _ in range(PLACES):
+            kept.enter_context(ask_and_read_nothing(at))
+        expect(becomes(lambda: is_served(at), WAITED), "the page comes back from clients that read nothing")
+        waited = time.monotonic() - begun
+        expect(LET_GO[0] <= waited <= slowed(LET_GO[1] + SHOWN), f"who reads nothing is let go after {waited:.1f} s")
+        expect(becomes(lambda: descriptors(office.process) <= idle, SHOWN), "all who read nothing are let go")
+    get(at, "/")
+
+
 def crowd(at):
-    """A thousand connections at once: those that are let go are closed, and nobody waits for them."""
+    """A thousand connections at once: those that are dropped are closed, and nobody waits for them."""
     made = []
     for _ in range(CROWD):
         connection = socket.socket()
@@ -119,7 +159,7 @@ def crowd(at):
 
 
 def show_a_page(program):
-    """A page is served where one is configured."""
+    """A page is served if one is configured."""
     with serving(program, 2, has_page=True) as office:
         at = office.page
         call = answered_call(*office.telephones())
@@ -132,5 +172,6 @@ def show_a_page(program):
         get(at, "/")
         is_idle = becomes(lambda: descriptors(office.process) <= idle + 1, SHOWN)
         expect(is_idle, f"{descriptors(office.process)} descriptors, where {idle} were")
+        outwait_readers(office, idle + 1)
         end(call)
         expect(becomes(lambda: calls_at(at) == [], SHOWN), "no call is left")

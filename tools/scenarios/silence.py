@@ -17,7 +17,7 @@ def two_calls(office):
 
 
 def tell_of_silence(program):
-    """In one call the callee sends nothing; in another, which is held, neither end does."""
+    """In one call the callee sends nothing; in another, a held one, neither end does."""
     with serving(program, workers=2) as office:
         def silent_ways():
             return [line for line in office.lines() if line.startswith("call-silent-way")]
@@ -36,7 +36,7 @@ def tell_of_silence(program):
 
 
 def hang_up_silence(program):
-    """In one call nothing is sent after a word, in another reports alone: the first is ended at both ends after the
+    """In one call nothing is sent after a word, in another only reports: the first is ended at both ends after the
     configured minute."""
     with serving(program, 2, "silent_minutes = 1\n") as office:
         silent, reported = two_calls(office)
@@ -54,7 +54,7 @@ def hang_up_silence(program):
 
 
 def expect_no_more(silent, reported):
-    """Nothing is passed on in a call that has been ended, and the other goes on."""
+    """Nothing is passed on in a call that has ended, and the other continues."""
     silent.speak(silent.caller, b"after the end")
     ports = [*silent.callee.media, *(phone.sip for call in (silent, reported) for phone in (call.caller, call.callee))]
     expect(not select.select(ports, [], [], slowed(OVER))[0], "no more of a silent call, and no BYE where reports come")

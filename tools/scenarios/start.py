@@ -1,5 +1,5 @@
-"""The salts of a server's start: whether they are drawn from the configured key, which means from the stream of
-ChaCha20 that begins at the microsecond of the start.
+"""The salts of a server's start: whether they are drawn from the configured key, that is from the ChaCha20 stream that
+begins at the microsecond of the start.
 
 One integer has a word of each of many blocks, in lanes of 64 bits: the sum of two words stays in its lane."""
 import struct
@@ -12,8 +12,8 @@ CONSTANTS, KEY_WORDS = struct.unpack("<4I", b"expand 32-byte k"), struct.unpack(
 # The words of each quarter of a column round, then of a diagonal one (RFC 7539, section 2.3).
 COLUMNS = [(at, at + 4, at + 8, at + 12) for at in range(4)]
 DIAGONALS = [(at, (at + 1) % 4 + 4, (at + 2) % 4 + 8, (at + 3) % 4 + 12) for at in range(4)]
-# The steps of a quarter round (section 2.1): the word to which another is added, the one that is turned then, and the
-# bits by which it is.
+# The steps of a quarter round (section 2.1): the word to which another is added, the one that is then rotated, and by
+# how many bits.
 STEPS = (0, 1, 3, 16), (2, 3, 1, 12), (0, 1, 3, 8), (2, 3, 1, 7)
 # The blocks of a stream that each microsecond of a second has; the salts of a block; and more salts than a scenario
 # draws.
@@ -53,7 +53,7 @@ def blocks(counters, stream):
 
 
 def salts_of(counters, stream):
-    """For each place in a block, the salts there of all these blocks. A salt has two words, the low half first."""
+    """For each place in a block, the salts there in all these blocks. A salt has two words, the low half first."""
     words = blocks(counters, stream)
     return [words_of(low | high << 32, len(counters)) for low, high in zip(words[::2], words[1::2])]
 
@@ -66,14 +66,14 @@ def salts(start):
 
 
 def starts_with(drawn, begin, end):
-    """The starts between these microseconds, of one second, of which a salt of the first block is drawn."""
+    """The starts between these microseconds, within one second, whose first block has a salt that was drawn."""
     seconds, first = divmod(begin, 1_000_000)
     counters = [microsecond * BLOCKS for microsecond in range(first, first + end - begin)]
     return {begin + place.index(salt) for place in salts_of(counters, seconds) for salt in drawn.intersection(place)}
 
 
 def parts(since, until):
-    """The microseconds between these in parts, each of one second."""
+    """The microseconds between these in parts, each within one second."""
     while since < until:
         end = min(until, since + AT_ONCE, (since // 1_000_000 + 1) * 1_000_000)
         yield since, end
@@ -82,8 +82,8 @@ def parts(since, until):
 
 def are_of_key(drawn, since, until):
     """Whether these salts, in hexadecimal digits, are of the configured key, at a start between the microseconds at
-    which the program is run and listens. The first events, which are registrations, draw of the first block. The search
-    begins where the program is run: it starts soon after that, and then opens its sockets before it says that it
+    which the program is run and listens. The first events, which are registrations, draw from the first block. The
+    search begins when the program is run: it starts soon after that, and then opens its sockets before it says that it
     listens."""
     wanted = {int(salt, 16) for salt in drawn}
     last = min(until, since + int(slowed(STARTS)))

@@ -6,7 +6,7 @@ from scenarios.pace import becomes, slowed
 from scenarios.workers import AGAIN
 from telephones.blocking import Call, expect
 
-# To the whole network, which a socket may not send to unless it asks for that.
+# To the whole network, to which a socket may not send unless it asks for that.
 NOWHERE = "255.255.255.255:9"
 # Seconds after which the server is configured to give up a telephone that says nothing; and in which it does: it counts
 # whole milliseconds.

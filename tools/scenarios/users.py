@@ -1,4 +1,4 @@
-"""Users that the file of the configuration gains and loses during a call."""
+"""Users that the configuration's file gains and loses during a call."""
 import json
 import os
 import re
@@ -9,26 +9,29 @@ from scenarios.pace import becomes, slowed
 from telephones.blocking import expect
 from telephones.messages import status_of
 
-# Who comes into the file during a call, and who leaves it.
-NEWCOMER, LEAVER = "200", "102"
-# Seconds in which the server has seen that, and for which a wrong file is left: it looks each two seconds.
+# The user that the file gains during a call, the one that it loses, and the one that later replaces the first.
+NEWCOMER, LEAVER, LATECOMER = "200", "102", "201"
+# Seconds in which the server has seen that, and for which a wrong file is left: it looks every two seconds.
 SEEN, LOOKED = 3, 5
 TROUBLE, OVER = "office: trouble: config: line 4: users: ", "office: trouble is over: config"
 
 
-def put_users(file, users):
-    """Writes a file of a configuration anew, with these users, as an editor does: another file takes its place."""
+def put_users(file, users, moment=None):
+    """Writes a new configuration file with these users, as an editor does: another file takes its place, whose
+    modification time is now, or this one, in nanoseconds."""
     with open(file, encoding="utf-8") as config:
         text = re.sub(r"(?m)^users = .*$", f"users = {json.dumps(users)}", config.read())
     with open(f"{file}.new", "w", encoding="utf-8") as config:
         config.write(text)
     os.chmod(f"{file}.new", 0o644)
+    if moment:
+        os.utime(f"{file}.new", ns=(moment, moment))
     os.replace(f"{file}.new", file)
 
 
 def talk(call, holds, most, least=0):
     """Both ends of a call talk until something holds, for this many seconds at most and at least, and hear each word.
-    Gives whether it held, and how often each spoke."""
+    Returns whether it held, and how often each spoke."""
     begun, words = time.monotonic(), 0
     while (talked := time.monotonic() - begun) < most:
         for speaker in (call.caller, call.callee):
@@ -45,14 +48,14 @@ def is_no_user(telephone):
 
 
 def refuse_leaver(leaver, other):
-    """Who is no user any more can't register, and can't be called."""
+    """Anyone who is no user any more can't register, and can't be called."""
     expect(is_no_user(leaver), f"{leaver.user} receives 404")
     invite = other.call(leaver.user, f"l{other.port}")
     other.acknowledge_refusal(invite, other.take("SIP/2.0 404", "INVITE"))
 
 
 class Change:
-    """A server whose file of a configuration changes while two of its telephones talk."""
+    """A server whose configuration file changes while two of its telephones talk."""
 
     def __init__(self, office):
         self.office, self.file = office, office.config
@@ -72,7 +75,7 @@ class Change:
         return held
 
     def exchange_users(self):
-        """A user comes, and one leaves."""
+        """A user is added, and another removed."""
         put_users(self.file, self.users)
         is_seen = self.talk(lambda: status_of(self.newcomer.register()) == 200, slowed(SEEN))
         expect(is_seen, f"{NEWCOMER} is registered within {SEEN} s")
@@ -80,13 +83,21 @@ class Change:
         end(answered_call(self.other, self.newcomer))
 
     def be_wrong(self):
-        """A user stands in the file twice, which changes nothing; then the file is right again."""
+        """A user is in the file twice, which changes nothing; then the file is right again."""
         put_users(self.file, [*self.users, USERS[0]])
         self.talk(lambda: self.told(TROUBLE), slowed(LOOKED), LOOKED)
         register(self.newcomer)
         expect(is_no_user(self.leaver), "a wrong file changes nothing")
         put_users(self.file, [*reversed(self.users)])
         self.talk(lambda: self.told(OVER), slowed(SEEN))
+
+    def change_within_a_second(self):
+        """A file of the same size, whose modification time is a nanosecond later, is seen."""
+        users = [LATECOMER if user == NEWCOMER else user for user in reversed(self.users)]
+        put_users(self.file, users, os.stat(self.file).st_mtime_ns + 1)
+        latecomer = self.office.telephone(LATECOMER)
+        is_seen = self.talk(lambda: status_of(latecomer.register()) == 200, slowed(SEEN))
+        expect(is_seen, f"{LATECOMER} is registered within {SEEN} s")
 
     def expect_lines(self):
         """The server reported each change of the file once, and all media of the call were passed on."""
@@ -96,17 +107,18 @@ class Change:
         expect(ends and re.search(counts, ends[-1]), f"all media went on: {ends}")
         lines = self.told(("users-changed", "office: trouble"))
         changed = f"users-changed added=1 removed=1 count={len(self.users)}"
-        are_right = len(lines) == 3 and lines[0] == changed and lines[1].startswith(TROUBLE) and lines[2] == OVER
+        are_right = len(lines) == 4 and lines[1].startswith(TROUBLE) and [lines[0], *lines[2:]] == [changed, OVER, changed]
         expect(are_right, f"the lines on the file are {lines}")
 
 
 def change_users(program):
-    """While two telephones talk, a user comes into the file of the configuration and one leaves it; then the file is
-    wrong, and right again."""
+    """While two telephones talk, the configuration file gains a user and loses one; then it is wrong, and right
+    again; then it changes within a second."""
     with serving(program, workers=2) as office:
         change = Change(office)
         change.exchange_users()
         change.be_wrong()
+        change.change_within_a_second()
         end(change.call)
         time.sleep(LOGGED)
         change.expect_lines()

@@ -1,4 +1,4 @@
-"""Calls that servers of one worker and more carry."""
+"""Calls that servers of one or more workers carry."""
 import time
 
 from scenarios import start
@@ -7,7 +7,7 @@ from scenarios.pace import slowed
 from telephones.blocking import Call, expect
 
 LENGTHS = (0, 6_000, 16_384)
-# Seconds in which an INVITE is sent again (RFC 3261, timer A): about half a second, as the system wakes the program.
+# Seconds in which an INVITE is retransmitted (RFC 3261, timer A): about half a second, as the system wakes the program.
 AGAIN = (0.4, 1.4)
 
 
@@ -46,7 +46,7 @@ def call_at_once(phones):
 
 
 def answer_late(caller, callee):
-    """The callee doesn't answer yet, and so the INVITE comes again. The server may be late with the first INVITE, but
+    """The callee doesn't answer yet, so the INVITE is retransmitted. The server may be late with the first INVITE, but
     not early with the second: its timer starts after the caller has sent its own."""
     call = Call(caller, callee)
     begun = time.time()

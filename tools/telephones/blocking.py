@@ -19,7 +19,7 @@ def expect(holds, what):
 
 
 class Telephone:
-    """A telephone of a user, which waits for each message until this many seconds have gone by."""
+    """A user's telephone, which waits for each message until this many seconds have passed."""
 
     def __init__(self, user, domain, server, ip, timeout):
         self.user, self.domain, self.server = user, domain, server
@@ -27,7 +27,7 @@ class Telephone:
         self.port = self.sip.getsockname()[1]
         self.identity = Identity(user, domain, ip, self.port, asks_for_port=True)
         self.requests = self.versions = self.registrations = 0
-        # The messages that it took, which the server sends again where the telephone is late; and what it waits for.
+        # The messages that it took, which the server retransmits if the telephone is late; and what it waits for.
         self.taken, self.wanted = set(), ""
         # The moment at which the last message arrived.
         self.came = 0.0
@@ -47,7 +47,7 @@ class Telephone:
         return describe(self.identity.ip, self.port, self.versions, audio(self.media[0].getsockname()[1], direction))
 
     def request(self, method, uri, call_id, to, number, body="", further=(), length=0):
-        """Sends a request, of this length where one is given, and gives it."""
+        """Sends a request, of this length if one is given, and returns it."""
         self.requests += 1
         branch = f"z9hG4bK{self.port}.{self.requests}"
         dialog = Dialog(call_id, f"t{self.user}", to)
@@ -55,7 +55,7 @@ class Telephone:
         return self.send(padded(request, length) if length else request)
 
     def call(self, user, call_id, length=0):
-        """Sends an INVITE to a user, and gives it."""
+        """Sends an INVITE to a user, and returns it."""
         uri = f"sip:{user}@{self.domain}"
         return self.request("INVITE", uri, call_id, f"<{uri}>", 1, self.description(), length=length)
 
@@ -76,7 +76,8 @@ class Telephone:
         return data.decode(errors="replace")
 
     def take(self, beginning, method=""):
-        """The next message that begins so and is of this method. Others are passed over, also what was taken before."""
+        """The next message that begins with this and is of this method. Others are skipped, as is what was taken
+        before."""
         self.wanted = " ".join([*beginning.split(), method]).strip()
         for _ in range(MOST_PASSED_OVER):
             message = self.next()
@@ -98,21 +99,21 @@ class Telephone:
         raise Failed(f"{self.user} takes {self.wanted}")
 
     def register(self, seconds=3600):
-        """Asks for a binding that lasts this long, 0 for none, and gives the response."""
+        """Asks for a binding that lasts this long, 0 for none, and returns the response."""
         self.registrations += 1
         uri, lines = f"sip:{self.domain}", [f"Expires: {seconds}"]
         self.request("REGISTER", uri, f"r{self.port}", self.identity.address, self.registrations, further=lines)
         return self.take("SIP/2.0 ", "REGISTER")
 
     def is_bound(self, seconds=3600):
-        """Asks for a binding that lasts this long, 0 for none, and says whether there is one then."""
+        """Asks for a binding that lasts this long, 0 for none, and returns whether there is one then."""
         response = self.register(seconds)
         expect(status_of(response) == 200, f"{self.user} receives {response[8:11]} for its REGISTER")
         return self.identity.contact in response
 
 
 class Call:
-    """A call between two telephones: its steps, and the ports at which the server has their media."""
+    """A call between two telephones: its steps, and the server's ports for their media."""
 
     def __init__(self, caller, callee):
         self.caller, self.callee, self.number = caller, callee, 1
@@ -121,7 +122,7 @@ class Call:
         self.ports = {}
 
     def dial(self, length=0):
-        """The caller's INVITE, of this length where one is given, reaches the callee."""
+        """The caller's INVITE, of this length if one is given, reaches the callee."""
         self.caller.call(self.callee.user, self.call_id, length)
         self.invite = self.callee.take("INVITE")
 
@@ -167,7 +168,7 @@ class Call:
         speaker.media[above].sendto(payload, (self.caller.server[0], self.ports[speaker] + above))
 
     def hears(self, speaker, payload):
-        """The other end hears what a telephone says, at both ports, from the server's ports for that end. Gives the
+        """The other end hears what a telephone says, at both ports, from the server's ports for that end. Returns the
         moment at which it arrived."""
         listener, came = self.other(speaker), 0.0
         for above in (0, 1):

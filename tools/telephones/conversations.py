@@ -1,32 +1,35 @@
-"""Calls of many kinds between two telephones, as chance has it: how each goes, and why one fails."""
+"""Random calls of many kinds between two telephones: how each goes, and why one fails."""
 from telephones.descriptions import media_port
 from telephones.messages import Dialog, contact_of, header, key_of, method_of, number_of, status_of
 from telephones.talking import T1, T2, WHOLE
 
 KINDS = ("talked", "held", "busy", "declined", "cancelled")
-# In one of this many calls both telephones lose power, for these seconds: the server has hung up then, and heard nothing.
+# In one of this many calls both telephones lose power, for these seconds: by then the server has hung up, and heard
+# nothing.
 VANISHES, IS_OFF = 50, 100
 REFUSALS = {"busy": 486, "declined": 603}
-# The seconds for which an end rings, talks and holds at most; and how often it speaks.
+# For how many seconds an end rings, talks and holds at most; and how often it speaks.
 RINGS, TALKS, HOLDS, SPEAKS = 1.0, 2.0, 1.0, 4
-# No call takes these seconds, whatever the line loses.
+# No call takes this many seconds, whatever the line loses.
 STUCK = 300
 
 
 class Leg:
-    """What an end knows of its dialog: the tag of its own, the Call-ID, the number of its last request, and where the other end is."""
+    """What an end knows of its dialog: its own tag, the Call-ID, the number of its last request, and where the other
+    end is."""
 
     def __init__(self, tag, call=""):
         self.tag, self.call, self.number = tag, call, 1
         self.to = self.contact = self.invite = ""
-        # The server's port for its media; the numbers of INVITEs that the other end acknowledged; whether a CANCEL is sent.
+        # The server's port for its media; the numbers of INVITEs that the other end acknowledged; whether a CANCEL is
+        # sent.
         self.hop, self.acknowledged, self.cancels = 0, set(), False
 
     def learn(self, to, message):
         self.to, self.contact, self.hop = to, contact_of(message), media_port(message)
 
     def dialog(self, to=""):
-        """What its requests repeat, to this To where one is given."""
+        """What its requests repeat, to this To if one is given."""
         return Dialog(self.call, self.tag, to or self.to)
 
 
@@ -73,7 +76,8 @@ class Conversation:
             self.finish()
 
     def give_up(self):
-        """An end doesn't learn that the call is over: the line's fault where it rings, and none of its responses passed, so that no CANCEL may come."""
+        """An end doesn't learn that the call is over. The line is to blame if the end rings, and none of its responses
+        passed, so that no CANCEL may come."""
         waiting = " and ".join(sorted("caller" if it is self.caller else "callee" for it in self.left))
         invite = self.ends[self.callee].invite
         is_unheard = invite and self.left == {self.callee} and not self.callee.line.passed[key_of(invite)]
@@ -169,7 +173,7 @@ class Conversation:
         self.repeat(telephone, invite)
 
     def repeat(self, telephone, invite, interval=T1, left=WHOLE):
-        """A final response to an INVITE is sent again until its ACK comes (sections 13.3.1.4 and 17.2.1)."""
+        """A final response to an INVITE is retransmitted until its ACK comes (sections 13.3.1.4 and 17.2.1)."""
 
         def again():
             if number_of(invite) in self.ends[telephone].acknowledged or left <= 0:
@@ -210,7 +214,7 @@ class Conversation:
             telephone.respond(request, 405, end.tag)
 
     def talk(self, telephone):
-        """Both speak; then an end holds, where one does; then an end hangs up, or both telephones lose power."""
+        """Both speak; then an end may hold; then an end hangs up, or both telephones lose power."""
         self.speak(telephone)
         if self.kind == "held":
             self.loop.after(self.fate.random() * TALKS, self.hold)
@@ -249,7 +253,7 @@ class Conversation:
         self.reoffer("sendonly", lambda: self.loop.after(self.fate.random() * HOLDS, lambda: self.reoffer("sendrecv", self.hang_up)))
 
     def reoffer(self, way, then):
-        """The end that holds offers again, and goes on when that is answered."""
+        """The end that holds offers again, and continues when that is answered."""
         if self.is_over:
             return
         telephone, end = self.holder, self.ends[self.holder]
@@ -272,7 +276,7 @@ class Conversation:
         asked = telephone.ask("INVITE", end.contact, end.dialog(), number, took, self.unheard, telephone.description(way))
 
     def wait_or_fail(self, status, seen, way, then):
-        """An offer that clashed comes again (section 14.1): the ACK of the last one was lost, say."""
+        """An offer that clashed is made again (section 14.1): the ACK of the last one was lost, for example."""
         if status not in (491, 500):
             self.fail(f"{status} to an offer of the call")
         elif not seen:

@@ -30,7 +30,7 @@ class Loop:
         return time.monotonic()
 
     def after(self, seconds, call):
-        """Calls in this many seconds; what is given takes that back, if it is called before."""
+        """Makes this call in this many seconds; calling what is returned before then cancels it."""
         timer = [self.now() + seconds, next(self.order), call]
         heapq.heappush(self.due, timer)
 
@@ -44,7 +44,7 @@ class Loop:
         return Port(self, ip, take)
 
     def run(self, until):
-        """Goes on until that holds."""
+        """Runs until that holds."""
         while not until():
             wait = max(0, self.due[0][0] - self.now()) if self.due else 0.1
             for key, _ in self.sockets.select(min(wait, 0.1)):

@@ -16,7 +16,7 @@ def headers(message, name):
 
 
 def header(message, name):
-    """The first value of a header, or no text."""
+    """The first value of a header, or an empty text."""
     found = re.search(rf"(?im)^{name}[ \t]*:[ \t]*(.*?)\r$", message)
     return found[1] if found else ""
 

@@ -1,4 +1,5 @@
-"""Telephones without sockets and without a clock: their moments are a heap's, and what they send are the events of `PROGRAM follow`."""
+"""Telephones without sockets and without a clock: their moments come from a heap, and what they send are the events of
+`PROGRAM follow`."""
 import heapq
 import itertools
 import os
@@ -8,11 +9,12 @@ import subprocess
 from telephones.messages import handshake_of, key_of, status_of
 from telephones.talking import T1, T2, WHOLE
 
-# Milliseconds after an event at which a transaction may end, at which one that has rung for long is given up, and at which that is over, too.
+# Milliseconds after an event at which a transaction may end, at which one that has rung for long is given up, and at
+# which that is over, too.
 FORGETS, RINGS = (5_001, 32_001), (180_001, 212_002)
-# How often timers are looked for that were passed over, and how many.
+# How often, in milliseconds, timers that were passed over are looked for, and how many each time.
 SWEEPS, SWEPT = 600_000, 8
-# A request that is answered at once, and forgotten, from a place of its own: once the program notes it, all that was sent
+# A request that is answered at once, and forgotten, from its own place: once the program notes it, all that was sent
 # before is carried out.
 MARK = ("192.0.2.254", 9)
 MARKED = f"source={MARK[0]}:{MARK[1]}".encode()
@@ -22,7 +24,7 @@ FIRST_PORT = 10_000
 
 
 class Program:
-    """`PROGRAM follow`, which carries out events, and gives what was sent meanwhile, and what is told of it."""
+    """`PROGRAM follow`, which carries out events, and returns what was sent meanwhile, and its notes."""
 
     def __init__(self, program, config):
         self.run = subprocess.Popen([os.path.abspath(program), "follow", "--config", config, "--notes"], stdin=subprocess.PIPE, stdout=subprocess.PIPE, bufsize=0)
@@ -30,7 +32,7 @@ class Program:
         self.read, self.at = b"", 0
 
     def memory(self):
-        """Kilobytes that are resident."""
+        """Resident kilobytes."""
         with open(f"/proc/{self.run.pid}/status", encoding="utf-8") as it:
             return next(int(line.split()[1]) for line in it if line.startswith("VmRSS"))
 
@@ -48,7 +50,7 @@ class Program:
         return line
 
     def datagram(self, length):
-        """This many bytes, after which a line feed stands."""
+        """This many bytes, followed by a line feed."""
         while len(self.read) <= self.at + length:
             self.more()
         data, self.at = self.read[self.at:self.at + length], self.at + length + 1
@@ -82,7 +84,7 @@ class Program:
 
 
 class Place:
-    """A port of a telephone's: what is sent from it to the server's SIP port is an event."""
+    """A port of a telephone: what is sent from it to the server's SIP port is an event."""
 
     def __init__(self, moments, ip, number, take):
         self.moments, self.ip, self.number, self.take = moments, ip, number, take
@@ -94,7 +96,8 @@ class Place:
 
 
 class Patience:
-    """When something may be due at the server: while nothing answers what it sent, when it sends that again; and when it forgets."""
+    """When something may be due at the server: while nothing answers what it sent, when it retransmits that; and when
+    it forgets."""
 
     def __init__(self, moments):
         self.moments, self.waits = moments, {}
@@ -122,7 +125,7 @@ class Patience:
             self.wait(key, WHOLE if key[1] == "INVITE" else T2)
 
     def wait(self, key, longest):
-        """It is sent again after an interval that doubles, and given up at last."""
+        """It is retransmitted at intervals that double, and given up at last."""
         before = self.waits.get(key)
         interval = self.waits[key] = min(2 * before, longest) if before else T1
         self.moments.after(interval, lambda: self.waits.get(key) == interval and self.moments.happen(b"T"))
@@ -137,7 +140,7 @@ class Patience:
 
 
 class Moments:
-    """The loop of telephones whose moments are a heap's."""
+    """The loop of telephones whose moments come from a heap."""
 
     def __init__(self, program, server):
         self.program, self.server = program, server
@@ -156,7 +159,7 @@ class Moments:
         return timer
 
     def after(self, seconds, call):
-        """Calls in this many seconds; what is given takes that back, if it is called before."""
+        """Makes this call in this many seconds; calling what is returned before then cancels it."""
         timer = self.later(round(seconds * 1_000), call)
 
         def take_back():
@@ -184,7 +187,7 @@ class Moments:
         return b"D %d %d %s %d %d\n%s\n" % (self.moment, 2 ** 63 + self.marks, MARK[0].encode(), MARK[1], len(QUESTION), QUESTION)
 
     def exchange(self):
-        """What waits is carried out, and what is sent for it comes to the telephones, until nothing is left."""
+        """Waiting events are carried out, and what is sent for them reaches the telephones, until nothing is left."""
         while self.waiting:
             events, self.waiting = [*self.waiting, self.question()], []
             sent, notes = self.program.carry(events)
@@ -196,7 +199,7 @@ class Moments:
                     self.places[port].take(data)
 
     def run(self, until):
-        """Goes on until this moment, in seconds."""
+        """Runs until this moment, in seconds."""
         while self.due and self.due[0][0] <= until * 1_000:
             self.moment, _, call = heapq.heappop(self.due)
             if call:

@@ -1,4 +1,5 @@
-"""Many days of calls between the telephones of an office, in a program that has no clock, and what stands after them."""
+"""Many days of calls between the telephones of an office, in a program that has no clock, and what is left
+afterwards."""
 from collections import Counter
 
 from telephones.conversations import Conversation
@@ -11,13 +12,13 @@ IP, SERVER, DOMAIN, TELEPHONES = "192.0.2.10", "192.0.2.1", "office.example", 10
 # As many pairs as calls hold and leave to rest for 32 seconds.
 PAIRS = 512
 DAY, HOUR, HURRIES = 86_400, 3_600, 60
-# Calls of a day, and the hours in which they begin; those of them in one minute, and on the first day, when they are more,
-# so that no memory is taken first on a later day.
+# Calls of a day, and the hours in which they begin; those of them in one minute, and those on the first day, which has
+# more, so that no memory is first taken on a later day.
 CALLS, OPEN, RUSH, FIRST = 970, 10, 30, 60
-# Seconds: until telephones have registered; how often they do, and how soon after a failure; how long they speak at most
-# after an answer, and are then silent before the server ends the call; until all ends after the last day.
+# Seconds: until telephones have registered; how often they do, and how soon after a failure; how long they speak at
+# most after an answer, and are then silent before the server ends the call; until everything ends after the last day.
 BEGINS, REGISTERS, AGAIN, SPEAK, SILENT, ENDS = 100, 1_800, 60, 5, 60, 600
-# The events after which memory stands, three in a hundred of a month's; the seconds between two looks at it.
+# The events after which memory is steady, three in a hundred of a month's; the seconds between two looks at it.
 STANDS, LOOKS, GROWTH = 30_000, 1_800, 1.05
 
 
@@ -37,13 +38,13 @@ class Month:
         self.lines = [Line(self.moments, fate, loss) for _ in range(TELEPHONES)]
         self.telephones = [Telephone(self.moments, line, fate, str(1_000 + at), self.moments.server, DOMAIN, IP) for at, line in enumerate(self.lines)]
         self.idle, self.begun, self.ended, self.registered = [*self.telephones], 0, [], {}
-        # The calls that stand in the server by their numbers, as its notes say; and the words of all notes.
+        # The calls that exist in the server, by number, as its notes say; and the words of all notes.
         self.standing, self.words, self.looks = {}, Counter(), []
 
     # ---- what happens
 
     def register(self, telephone):
-        """A telephone registers, and again and again; soon after a failure."""
+        """A telephone registers again and again; soon after a failure."""
 
         def took(response):
             if status_of(response) == 200:
@@ -54,7 +55,7 @@ class Month:
             self.moments.after(REGISTERS, lambda: self.register(telephone))
 
     def begin(self):
-        """Another call begins, where two telephones are idle."""
+        """Begins another call if two telephones are idle."""
         if len(self.idle) < 2:
             return
         self.fate.shuffle(self.idle)
@@ -67,7 +68,7 @@ class Month:
         self.idle += [call.caller, call.callee]
 
     def heed(self, note):
-        """A line of the server's notes. In a call that stands nothing is heard after a while."""
+        """Takes a line of the server's notes. In an answered call nothing is heard after a while."""
         word, said = fields_of(note)
         self.words[word] += 1
         if word == "call-begun":
@@ -102,10 +103,11 @@ class Month:
         self.moments.run(self.days * DAY)
         self.moments.run(self.days * DAY + ENDS)
 
-    # ---- what is looked at
+    # ---- what is checked
 
     def stale(self):
-        """How many last REGISTERs the server still knows, of how many: a repeat of such a one is answered as before, with the same tag."""
+        """How many last REGISTERs the server still knows, of how many: it answers a repeat of such a one as before,
+        with the same tag."""
         stale = []
         for it, (request, response) in self.registered.items():
             it.sip.take = lambda data, response=response: stale.append(data.decode() == response)
@@ -114,7 +116,7 @@ class Month:
         return sum(stale), len(stale)
 
     def faults(self):
-        """What didn't hold, of how many things."""
+        """What didn't hold, and of how many things."""
         failed = Counter(it.fault for it in self.ended if it.fault)
         events = self.moments.events
         stale = self.stale()

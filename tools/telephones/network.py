@@ -1,4 +1,5 @@
-"""A network of its own: a bridge, and a namespace for the server and for each telephone; and what passes the server's interface."""
+"""A separate network: a bridge, and a namespace for the server and for each telephone; and what passes the server's
+interface."""
 import re
 import struct
 import subprocess
@@ -18,7 +19,7 @@ def run(*words):
 
 
 def inside(name, words):
-    """The words of a command that runs in the namespace of this host."""
+    """The words of a command that runs in this host's namespace."""
     return ["ip", "netns", "exec", f"{BRIDGE}-{name}", *words]
 
 
@@ -120,7 +121,7 @@ class Watch:
             return len(self.packets)
 
     def wait(self, start, wanted, seconds):
-        """The first packet from this place on that is wanted, if it comes in time."""
+        """The first wanted packet from this place on, if it comes in time."""
         end = time.time() + seconds
         with self.news:
             while True:

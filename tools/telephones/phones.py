@@ -1,4 +1,4 @@
-"""Telephones that are driven by their own words: each is started in a namespace of its own."""
+"""Telephones that are driven by their own commands: each is started in its own namespace."""
 import json
 import math
 import os
@@ -14,12 +14,12 @@ from telephones.network import NET, SERVER, inside
 
 
 class Phone:
-    """A telephone of a user. What it can't do raises Lacks."""
+    """A user's telephone. What it can't do raises Lacks."""
 
     kind = None
-    # What it can do beside calls with G.711.
+    # What it can do besides calls with G.711.
     has = frozenset()
-    # Whether nothing can be had from its microphone here.
+    # Whether its microphone yields nothing here.
     is_mute = False
 
     def __init__(self, user, address, tone, folder, **wishes):

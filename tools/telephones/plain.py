@@ -1,4 +1,4 @@
-"""A telephone of the trial's own, which says what the others can't: UPDATE, 0.0.0.0, video, and no answer at all."""
+"""The trial's own telephone, which says what the others can't: UPDATE, 0.0.0.0, video, and no answer at all."""
 import ctypes
 import os
 import random
@@ -50,7 +50,7 @@ class Plain:
         self.user, self.address, self.tone, self.wishes = user, address, tone, wishes
         self.identity = Identity(user, SERVER, address, 5060)
         self.number, self.version, self.hop = 0, 1, None
-        # The dialog that stands, and the URI that its requests go to; and the last INVITE that it sent, with its dialog.
+        # The present dialog, and the URI that its requests go to; and the last INVITE that it sent, with its dialog.
         self.dialog = self.target = self.invite = self.early = None
         self.messages, self.news = [], threading.Condition()
         self.runs = True
@@ -85,7 +85,7 @@ class Plain:
             self.take(data.decode("utf-8", "replace"))
 
     def note(self, text):
-        """Whoever waits for a message learns of it."""
+        """Tells anyone who waits for a message about it."""
         with self.news:
             self.messages.append(text)
             self.news.notify_all()
@@ -110,7 +110,7 @@ class Plain:
         self.sip.sendto(text.encode(), (SERVER, 5060))
 
     def request(self, method, uri, dialog, body="", branch="", further=()):
-        """A request of this branch, or else of one of its own."""
+        """A request with this branch, or else with its own."""
         branch = branch or f"z9hG4bK{random.randrange(1 << 60):x}"
         return self.identity.request(method, uri, dialog, self.number, branch, body, further)
 
@@ -123,7 +123,7 @@ class Plain:
         return describe(self.address, 7, self.version, [f"a={direction}", *lines], address)
 
     def answer_to(self, offer):
-        """An answer that takes the audio and refuses the rest."""
+        """An answer that accepts the audio and rejects the rest."""
         self.version += 1
         lines = ["a=sendrecv"]
         for medium in re.findall(r"m=(.*)\r\n", offer):
@@ -151,7 +151,7 @@ class Plain:
         self.note(text)
 
     def respond_to(self, text):
-        """What has to be said at once."""
+        """Sends what must be said at once."""
         line, body = text.split("\r\n")[0], body_of(text)
         if line.startswith("INVITE ") and ";tag=" not in header(text, "To"):
             self.tag = f"t{random.randrange(1 << 40):x}"

@@ -4,8 +4,8 @@ import random
 import socket
 import struct
 
-# Servers have the lower of these ports, media of telephones the upper ones: all are below those that the system gives
-# to sockets that ask for none.
+# Servers have the lower of these ports, telephones' media the upper ones: all are below those that the system gives to
+# sockets that ask for none.
 LOWEST, HIGHEST, BLOCK = 10_000, 22_000, 256
 MEDIA = 22_000, 32_000
 # The option by which Linux notes when a datagram arrives (SO_TIMESTAMPNS).
@@ -56,7 +56,7 @@ def take(kept, ip, first, count):
 
 @contextlib.contextmanager
 def reserved(ip, count):
-    """The first of as many free ports, none of which anyone else has reserved."""
+    """The first of this many free ports, none of which anyone else has reserved."""
     with contextlib.ExitStack() as kept:
         for _ in range(1_000):
             first = random.randrange(LOWEST, HIGHEST - count, BLOCK)

@@ -1,5 +1,5 @@
-"""A telephone with a bad line: a fifth of its SIP datagrams is lost each way, a fifth is doubled, and all are late. It sends
-again as RFC 3261 says."""
+"""A telephone with a bad line: a fifth of its SIP datagrams is lost each way, a fifth is doubled, and all are late. It
+retransmits as RFC 3261 says."""
 import random
 import threading
 
@@ -34,10 +34,10 @@ class Rough(Plain):
         self.suffer(lambda: Plain.send(self, text))
 
     def take(self, text):
-        """What reaches the line; what comes out of it is taken, and noted for whoever waits."""
+        """What reaches the line; what comes out of it is taken, and noted for anyone who waits."""
         self.suffer(lambda: self.take_late(text))
 
-    # ---- what is sent again
+    # ---- what is retransmitted
 
     def repeat(self, key, text, interval=T1, left=64 * T1):
         self.put(text)
@@ -52,7 +52,7 @@ class Rough(Plain):
             timer.cancel()
 
     def send(self, text):
-        """A request is sent again until it is answered, an INVITE's final response until its ACK comes."""
+        """A request is retransmitted until it is answered, an INVITE's final response until its ACK comes."""
         status = status_of(text)
         if text.startswith("ACK "):
             self.acks[handshake_of(text)] = text

@@ -1,4 +1,4 @@
-"""What two telephones do with each other, and what has to be seen of it at the server's interface."""
+"""What two telephones do with each other, and what must be seen of it at the server's interface."""
 import time
 
 from telephones.audio import loudness, samples
@@ -20,7 +20,7 @@ class Stage:
         self.watch, self.caller, self.callee, self.third = watch, caller, callee, third
 
     def sip(self, start, text, source=None, target=None, seconds=PATIENCE, method=None):
-        """A message whose first line begins so, from this telephone or to it."""
+        """A message whose first line begins with this, from this telephone or to it."""
         def wanted(packet):
             return (packet.is_sip() and packet.first_line().startswith(text) and (not source or packet.source == source.address)
                     and (not target or packet.target == target.address) and (not method or packet.header("CSeq").endswith(method)))
@@ -60,7 +60,7 @@ class Stage:
     # ---- steps
 
     def register(self):
-        """Both register. One that doesn't, as twinkle at some starts, is started again."""
+        """Both register. One that doesn't, such as twinkle at some starts, is started again."""
         for phone in (self.caller, self.callee):
             try:
                 self.sip(0, "SIP/2.0 200", target=phone, method="REGISTER")
@@ -116,7 +116,7 @@ class Stage:
         self.hear_each_other()
 
 
-# ---- scenes: each gives what was seen, or raises Failed
+# ---- scenes: each returns what was seen, or raises Failed
 
 
 def plain_call(stage, by_caller):
@@ -167,7 +167,7 @@ def gone(stage):
     stage.sip(start, "SIP/2.0 480", target=stage.caller, method="INVITE")
 
 
-# ---- scenes with a telephone of the trial's own, the caller
+# ---- scenes with the trial's own telephone, the caller
 
 def held_by_no_address(stage):
     """The old way to hold (RFC 3264 section 8.4)."""
@@ -195,7 +195,7 @@ def update(stage):
 
 
 def offered(stage, media):
-    """An offer of these media, of which the audio is heard."""
+    """An offer of these media, whose audio is heard."""
     start = stage.watch.here()
     stage.caller.dial(stage.callee.user, media)
     stage.sip(start, "SIP/2.0 18", target=stage.caller, method="INVITE")
@@ -208,7 +208,7 @@ def offered(stage, media):
 
 
 def second_call(stage):
-    """A third telephone calls the callee, who talks: it rings there, or is refused, and the call goes on."""
+    """A third telephone calls the callee, who is talking: it rings there, or is refused, and the call continues."""
     stage.call()
     start = stage.watch.here()
     stage.third.dial(stage.callee.user)
@@ -255,7 +255,7 @@ def unanswered(stage):
 
 
 def gone_silent(stage):
-    """The callee vanishes: the caller learns of it by 408, after the configured seconds."""
+    """The callee vanishes: the caller gets 408, after the configured seconds."""
     stage.callee.end()
     start, begun = stage.watch.here(), time.time()
     stage.caller.dial(stage.callee.user)

@@ -1,14 +1,14 @@
-"""A telephone that sends again and answers again as RFC 3261 says (sections 13 and 17), one call at a time."""
+"""A telephone that retransmits and answers again as RFC 3261 says (sections 13 and 17), one call at a time."""
 from telephones.descriptions import audio, describe
 from telephones.messages import Dialog, Identity, key_of, status_of
 
 T1, T2, WHOLE = 0.5, 4.0, 32.0
-# After this many seconds nothing of a transaction is sent again.
+# After this many seconds nothing of a transaction is retransmitted.
 FORGOTTEN = 40
 
 
 class Asked:
-    """A request of the telephone's own: it is sent again until a response comes, and given up after 32 seconds."""
+    """A request of the telephone's own: it is retransmitted until a response comes, and given up after 32 seconds."""
 
     def __init__(self, telephone, text, took, gave_up):
         self.telephone, self.text, self.took, self.gave_up = telephone, text, took, gave_up
@@ -31,7 +31,7 @@ class Asked:
                 self.took(response)
             return
         if status < 200:
-            # A request that is no INVITE is still sent again (section 17.1.2.2).
+            # A request that is no INVITE is still retransmitted (section 17.1.2.2).
             if self.key[1] == "INVITE":
                 self.stop_again()
                 self.stop_whole()
@@ -60,7 +60,7 @@ class Telephone:
         self.port, self.media_port = self.sip.number, self.media.number
         self.identity = Identity(user, domain, ip, self.port)
         self.asked, self.said, self.number, self.version, self.is_off = {}, {}, 0, 0, False
-        # What takes a request that is no repeat; and what the media are given to.
+        # What takes a request that is no repeat; and what gets the media.
         self.takes = lambda request: None
         self.hears = lambda data: None
 
@@ -89,18 +89,18 @@ class Telephone:
             self.say(key, "")
             self.takes(text)
         elif said[0]:
-            # (until it is answered, a repeat is passed over)
+            # (until it is answered, a repeat is skipped)
             self.put(said[0])
 
     def ask(self, method, uri, dialog, number, took, gave_up, body="", branch="", further=()):
         return Asked(self, self.request(method, uri, dialog, number, body, branch, further), took, gave_up)
 
     def request(self, method, uri, dialog, number, body="", branch="", further=()):
-        """A request of this branch, or else of one of its own."""
+        """A request with this branch, or else with its own."""
         return self.identity.request(method, uri, dialog, number, branch or f"z9hG4bK{self.fate.getrandbits(60):x}", body, further)
 
     def respond(self, request, status, tag, body=""):
-        """Responds, and does so again where the request comes again."""
+        """Responds, and does so again if the request comes again."""
         text = self.identity.response(request, status, tag, body)
         self.say(key_of(request), text)
         self.put(text)
@@ -118,7 +118,7 @@ class Telephone:
         return self.ask("REGISTER", f"sip:{self.domain}", dialog, self.number, took, gave_up, further=["Expires: 3600"])
 
     def lose_power(self):
-        """It sends nothing and takes nothing, and knows nothing of what was."""
+        """It sends nothing and takes nothing, and forgets everything."""
         self.is_off = True
         for it in self.asked.values():
             it.stop()

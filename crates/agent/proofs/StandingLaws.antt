@@ -1,4 +1,4 @@
--- An agent comes after what a step or a run made of it.
+-- An agent stands after what a step or a run made of it.
 use Rattle.std.proofs.Common.{◌≡◌, ◌++◌, List, Result, Ok, Err, IfOk, OnErr, OnOk}
 use Rattle.events.specs.declared.event.Event.{Event}
 use Rattle.events.specs.declared.sent.Sent.{Sent}

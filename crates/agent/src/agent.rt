@@ -100,15 +100,15 @@ impl Model for Agent {
 }
 
 impl Agent {
-    /// The number of events by answer. Takes no memory.
+    /// How many events got each answer. Takes no memory.
     pub fn tally(&self) -> Tally
         ensures { result ≡ self.now.tally }
     {
         self.tally
     }
 
-    /// The current calls, in the order in which they began. Where the agent comes after a trace, those that were
-    /// answered, and that no end has left, are exactly the live ones of the trace, each once; where a leg of a call
+    /// The current calls, in the order in which they began. Where the agent stands after a trace, those that were
+    /// answered, and that no end has left, are exactly the live ones of the trace, each once. Where a leg of a call
     /// has ended, both have, or the call is listed as one that an end has left. Takes no memory.
     pub fn calls(&self) -> &[StandingCall]
         ensures calls { result.now ≡ self.now.calls.calls }
@@ -118,7 +118,7 @@ impl Agent {
         self.calls.as_slice()
     }
 
-    /// The relay table. Where the agent comes after a trace, it has the rows of the live calls and no other, and
+    /// The relay table. Where the agent stands after a trace, it has the rows of the live calls and no other, and
     /// joined by it their legs mean what RFC 3264 gives an offer and an answer passed directly. Takes no memory.
     pub fn relay(&self) -> &RelayTable
         ensures rows { result.now ≡ self.now.calls.pool.rows }
@@ -172,9 +172,9 @@ impl Agent {
         &self.registrar
     }
 
-    /// The number of the call that holds the pair of this port, used or reserved. Where the agent comes after a
-    /// trace, that call exists, and is the live one that names the pair; and while no offer is open in it, in the
-    /// trace, its session has the pair. Takes no memory.
+    /// The number of the call that holds the pair of this port, used or reserved. Where the agent stands after a
+    /// trace, that call exists, and is the live one that names the pair. While no offer is open in it, in the trace,
+    /// its session has the pair. Takes no memory.
     pub fn holder(&self, port: u16) -> Option<u64>
         ensures holder { result ≡ holder_at self.now.calls.pool.holdings port }
         ensures live { (t : List Datagram) (k : ℕ) → AgentStands self.now t k → HoldsFor self.now.calls.calls t port result }
@@ -209,7 +209,7 @@ impl Agent {
 
     /// Takes an event: what it returns, sends and changes is its row. Where memory is refused, the agent and the list
     /// are as before, and the event counts as if it had not come. An event that is only counted takes no memory. An
-    /// agent that comes after a trace comes after it with what the event took and sent, so that the media promise
+    /// agent that stands after a trace stands after it with what the event took and sent, so that the media promise
     /// still holds.
     pub fn step(&mut self, event: &Event, sent: &mut Vec<Sent>) -> Result<Taken, AllocError>
         ensures answer { IfOk result (λ taken. taken ≡ (row self.old event.entry.now).plan.taken) }

@@ -102,7 +102,7 @@ fn lifetime_of(config: &Config) -> Option<u64>
 }
 
 impl Agent {
-    /// An agent to which nothing has happened, which comes after the empty trace. The configuration keeps the rules,
+    /// An agent to which nothing has happened, which stands after the empty trace. The configuration keeps the rules,
     /// or the first that it breaks is returned. Transactions, calls and users are looked up by prints under this key,
     /// which no clause here or elsewhere mentions: so what is sent doesn't depend on it.
     pub fn new(alloc: Global, key: PrintKey, config: &Config) -> Result<Agent, ConfigError>

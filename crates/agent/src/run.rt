@@ -142,7 +142,7 @@ impl Agent {
 
     /// Takes events in order, and enters each with its answer and its sends; one that is lost counts as if it had not
     /// come, and is entered too. Where the trace can't grow, agent and trace are as after the events that were
-    /// entered. These entries have a trace; and an agent that stood after an earlier trace comes after it with any
+    /// entered. These entries have a trace; and an agent that stood after an earlier trace stands after it with any
     /// trace of theirs.
     pub fn run(&mut self, events: &[Event], trace: &mut Trace) -> Result<(), AllocError>
         ensures ran { OnOk result (Ran self.old trace.old events.now self.new trace.new) }

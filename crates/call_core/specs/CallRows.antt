@@ -58,7 +58,7 @@ session_step c pool now s row = record {
 abbrev pub answer_step : Call → Contents → ℕ → OpenOffer → Description → Row → Step
 answer_step c pool now o answer row = session_step c pool now (session_over o (answer_sent c.media o answer) answer) row
 
--- release: the pairs of the open offer rest, but for those that the session uses
+-- release: the pairs of the open offer rest, except for those that the session uses
 abbrev pub release_step : Call → Contents → ℕ → Row → Step
 release_step c pool now row = record {
   actions = row.actions;

@@ -1,4 +1,4 @@
--- What a line of the table is about, for whoever watches the calls. Like its effects, it is read off its actions.
+-- What a line of the table is about, for observers of the calls. Like its effects, it is derived from its actions.
 use Rattle.std.specs.Prelude.{◌≡◌, ℕ, ◌==◌, ◌||◌, Bool, true, false, is_none, is_some, List, find, Option, Some, None, option_and_then, option_map, if◌then◌else◌}
 use Rattle.std.specs.Option.{option_or}
 use Rattle.call_media.specs.declared.end.End.{End}

@@ -33,7 +33,7 @@ pub enum Action {
     Answer(End),
     /// The same 200 again.
     AnswerAgain(End),
-    /// A final response to the offer that is no 2xx.
+    /// A final response to the offer that is not a 2xx.
     Refusal(End, u16),
     /// 200 to a BYE or a CANCEL.
     Okay(End),

@@ -26,7 +26,7 @@ ghost use Rattle.call_core.specs.Table.{first_row, row_of};
 ghost use Rattle.call_core.specs.Calls.{IsServed, awaits_answer, has_session, holds_in};
 
 /// Where a session is live, the call's two legs, joined by the relay table, mean what the offerer's own offer and the
-/// answerer's own answer mean directly; each was asked what the other offered; and each pair of the session is the
+/// answerer's own answer mean directly. Each was asked what the other offered. Each pair of the session is the
 /// call's. A session is live exactly from the first fit 2xx until an end leaves.
 pub fn session_is_direct()
     ensures joined { (call : Call) (pool : Contents) (s : Session) → IsServed call pool → call.media.session ≡ Some s →

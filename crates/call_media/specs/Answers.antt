@@ -58,8 +58,8 @@ pub record FitsRows (number : ℕ) (pool : Contents) (s : Session) (r : SessionR
       ≡ row_after pool number (session_lines s.offer_taken s.answer_sent s.offer_sent s.answer_taken) port
 
 -- What is known of the planned answer to an open offer, on the values that it was planned with: it has as many media as
--- the offer (RFC 3264 section 6); the offerer gets the answer but for addresses and ports, which are the server's; the
--- session's pairs are the call's, and each serves one medium and one end.
+-- the offer (RFC 3264 section 6); the offerer gets the answer except for addresses and ports, which are the server's;
+-- the session's pairs are the call's, and each serves one medium and one end.
 pub record IsFit (m : CallMedia) (pool : Contents) (o : OpenOffer) (p : PlannedAnswer) : Type 0 where
   pub sent : p.sent ≡ answer_sent m o p.taken
   pub media : length p.taken.media ≡ length o.offer_sent.media

@@ -73,7 +73,7 @@ opened m pool e offer now = opened_over m e offer (seats_offered m pool e offer 
 abbrev pub is_own_or_fresh : ℕ → Contents → List Pair → ℕ → Bool
 is_own_or_fresh number pool fresh even = is_even even && (is_port_of pool number even || is_among fresh even)
 
--- What is known of an open offer: what the end across gets is the offer but for addresses and ports, which are the
+-- What is known of an open offer: what the end across gets is the offer except for addresses and ports, which are the
 -- server's, and each of its media has pairs of its own.
 pub record IsPassedOn (ip : List ℕ) (o : OpenOffer) : Type 0 where
   pub alike : Alike o.offer_taken o.offer_sent

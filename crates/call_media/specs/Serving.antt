@@ -22,9 +22,9 @@ is_held number pool even = is_even even && is_port_of pool number even
 abbrev pub are_held : ℕ → Contents → List ℕ → Bool
 are_held number pool pairs = list_all (is_held number pool) pairs
 
--- Each end was sent what the other said, but for addresses and ports, which are the server's; the answer has as many
--- media as the offer (RFC 3264 section 6); the pool has the session's rows, over pairs of the call of which each serves
--- one medium and one end.
+-- Each end was sent what the other said, except for addresses and ports, which are the server's; the answer has as
+-- many media as the offer (RFC 3264 section 6); the pool has the session's rows, over pairs of the call of which each
+-- serves one medium and one end.
 pub record Stands (ip : List ℕ) (number : ℕ) (pool : Contents) (s : Session) : Type 0 where
   pub held : IsTrue (are_held number pool (pairs_of_session s))
   pub distinct : IsTrue (are_distinct (pairs_of_session s))

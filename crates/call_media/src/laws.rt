@@ -33,7 +33,7 @@ pub fn seats_are_apart()
 {}
 
 /// Where the session of a call is live, its two legs, joined by the relay table, mean what the offerer's own offer
-/// and the answerer's own answer mean directly; each was asked what the other offered.
+/// and the answerer's own answer mean directly. Each was asked what the other offered.
 pub fn session_is_direct()
     ensures joined { (media : CallMedia) (pool : Contents) (s : Session) → Serves media pool → media.session ≡ Some s →
         joined media.range.ip (leads_by pool.rows) s.offer_taken s.answer_sent s.offer_sent s.answer_taken

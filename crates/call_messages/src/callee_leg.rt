@@ -36,7 +36,7 @@ fn leg_id(alloc: Global, server: Addr, token: &[u8], tag: &[u8]) -> Result<Dialo
 }
 
 /// The dialog that a call's first INVITE asks the callee for. From and To are those of the caller's INVITE, which has
-/// these parts, without its tags; the Call-ID is a token at the server's address, and the From tag is a token; the
+/// these parts, without its tags. The Call-ID is a token at the server's address, and the From tag is a token. The
 /// request goes to the URI at which the callee is bound (RFC 3261 sections 8.1.1 and 16.6). The first request of this
 /// dialog is that INVITE.
 #[tactic(auto, unfolding(crate::specs::Messages::new_leg))]

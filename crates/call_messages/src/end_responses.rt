@@ -83,7 +83,7 @@ pub fn answer(
     response_with(alloc, asker, 200, &further, body.as_bytes())
 }
 
-/// A final response that is no 2xx. It has no Contact and no body.
+/// A final response that is not a 2xx. It has no Contact and no body.
 pub fn refusal(
     alloc: Global,
     asker: &Asker<'_, '_>,

@@ -15,8 +15,8 @@ use dialogs::{Dialog, is_above};
 use sip_message::Request;
 use std::alloc::{AllocError, Global};
 
-/// What a request with a tag in To, or one that is no INVITE, is to the live calls. The place is that of the call,
-/// which is borrowed where more of it is needed, and the end is the one that sent the request.
+/// What a request with a tag in To, or one that is not an INVITE, is to the live calls. The place is that of the
+/// call, which is borrowed where more of it is needed, and the end is the one that sent the request.
 #[derive(Clone, Copy)]
 pub enum DialogRule<'c> {
     /// It is in no dialog, or its end has left the call (RFC 3261 section 12.2.2).

@@ -134,7 +134,7 @@ fn asker_in<'c, 'a>(
 
 // ---- the scene
 
-/// A request, lent again.
+/// A request, borrowed again.
 fn asker_again<'s, 'a>(asker: &'s Option<Asker<'_, 'a>>) -> Option<Asker<'s, 'a>>
     ensures { option_map asker_value result ≡ option_map asker_value asker.now }
 {

@@ -22,7 +22,7 @@ below_both : (a b : Bool) → b ≡ false → IsTrue (not (a && b))
 below_both true b e = rw e refl
 below_both false b e = refl
 
--- a final response that is no 2xx
+-- a final response that is not a 2xx
 pub refusal_idle : (methods : List (List ℕ)) (t : List Datagram) (taken : Option Message) (m : Message) (status : ℕ) → m.kind ≡ Response status → 300 ≤ status → IsIdle methods t taken m
 refusal_idle methods t taken m status e h = plain (rw e (not_first (is_success (Response status)) _ (below_both (nat_le 200 status) (nat_lt status 300) (le-ltb status 300 h))))
 

@@ -170,7 +170,7 @@ fine_idle methods t taken sent acks idle = record {
       absurd (root_differs methods t c.0 c.1 m c.2 unused (ap (λ v. v.branch) c.3)));
 }
 
--- what is taken and moves no call is no final response to an open offer
+-- what is taken and moves no call is not a final response to an open offer
 pub idle_answers_none : (methods : List (List ℕ)) (n : ℕ) (t : List Datagram) (taken : Option Message) (sent : List Message) (x y : Dialog) (p : Offer) → Copies methods t → IsIdleTaken methods t taken → Offered methods t x y p
     → (k : ℕ) (r : Datagram) → At (passed n taken sent) k r → ¬ TakesFinal r p.went
 idle_answers_none methods n t taken sent x y p copies idle h k r at f =

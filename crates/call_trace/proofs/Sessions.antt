@@ -1,4 +1,4 @@
--- Each move keeps how the calls stand.
+-- Each move keeps the calls standing after the trace.
 use Rattle.std.proofs.Common.{◌≡◌, ℕ, suc, List, [], ◌∷◌, ◌++◌, Option, Some, sym, subst}
 use Rattle.std.specs.Prelude.{slice_set, remove}
 use Rattle.call_trace.specs.declared.datagram.Message.{Message}

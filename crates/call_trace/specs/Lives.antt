@@ -47,7 +47,7 @@ pub record LivesAfter (calls : List Call) (t : List Datagram) : Type 0 where
   pub legs : AllOf (LegsStand t) calls
   pub begun : (d : Dialog) → Begun t d → AnyOf (IsLegOf d) calls ⊎ Ended t d
 
--- How calls come after a trace of n events: their sessions, and which dialogs are live.
+-- How calls stand after a trace of n events: their sessions, and which dialogs are live.
 pub record Stands (methods : List (List ℕ)) (calls : List Call) (n : ℕ) (t : List Datagram) : Type 0 where
   pub sessions : StandsAfter methods calls n t
   pub lives : LivesAfter calls t

@@ -1,4 +1,4 @@
--- How calls come after a trace: which exchanges are their last, which offers are open.
+-- How calls stand after a trace: which exchanges are their last, which offers are open.
 use Rattle.std.specs.Prelude.{◌≡◌, ◌≢◌, ℕ, ◌<◌, List, [], ◌∷◌, Bool, true, false, not, Some, ◌⊎◌, IsTrue}
 use Rattle.call_trace.specs.declared.datagram.Direction.TheVariants.{Taken, Sent}
 use Rattle.call_trace.specs.declared.datagram.Datagram.{Datagram}

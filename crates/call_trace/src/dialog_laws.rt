@@ -15,7 +15,7 @@ ghost use Rattle.call_trace.specs.Lives.{IsEnding, SparesCall, Stands};
 ghost use Rattle.call_trace.specs.Events.{taken_at, sent_at, passed, dialog_sent, AreNewBytes, EndsNow};
 ghost use Rattle.call_trace.specs.Runs.{AreRead};
 
-/// A dialog of a call that is no longer listed has ended, and so has one that ends by an event, after it; the legs of
+/// A dialog of a call that is no longer listed has ended, and so has one that ends by an event, after it. The legs of
 /// a call that no end has left have not. The first 2xx of a call has bytes that were not sent before. An event of
 /// which nothing is in the trace counts, and changes nothing.
 pub fn dialogs_are_known()

@@ -23,9 +23,9 @@ ghost use Rattle.call_trace.specs.Promised.{AreRelayed, AreServed, Promised, All
 use crate::laws::relayed_is_promised;
 use offer_answer::joined_is_direct;
 
-/// INVITE and UPDATE are methods that may carry an offer. No calls come after the empty trace. Where calls come after
-/// a trace and an event is a move, the calls after the move come after the trace with the event's datagrams; and the
-/// same holds for lists of moves.
+/// INVITE and UPDATE are methods that may carry an offer. No calls stand after the empty trace. Where calls stand
+/// after a trace and an event is a move, the calls after the move stand after the trace with the event's datagrams;
+/// and the same holds for lists of moves.
 pub fn moves_keep()
     ensures offering { AreOffering offering }
     ensures none { (methods : List (List ℕ)) → AreOffering methods → Stands methods [] 0 [] }
@@ -35,7 +35,7 @@ pub fn moves_keep()
         Moves methods n t old events new → Stands methods old n t → Stands methods new (n + length events) (t ++ trace_from n events) }
 {}
 
-/// Calls that come after a trace, whose sessions are relayed and served, give the whole promise. That the calls
+/// Calls that stand after a trace, whose sessions are relayed and served, give the whole promise. That the calls
 /// listed as answered are exactly the live ones needs no table; and for each of them the media promise says which end
 /// offered last.
 pub fn standing_is_promised()

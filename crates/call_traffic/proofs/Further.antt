@@ -30,7 +30,7 @@ goes_on count moment now (look ∷ looks) since =
       | false ↦ λ s. goes_on count moment now looks s
     ] since
 
--- after looks that don't all found its count, only later ones can be the earliest
+-- if not all looks found the count, the first of them is passed over
 not_from_here : (count now : ℕ) (look : Look) (looks : List Look) → all_found count (look ∷ looks) ≡ false → since_when count (after_look (look ∷ looks) now count) ≡ since_when count (after_look looks now count)
 not_from_here count now look looks none = cond-false (all_found count (after_look (look ∷ looks) now count)) _ _ (found_more count now (look ∷ looks) ∙ none)
 

@@ -175,7 +175,7 @@ leg_tags : (key : PrintKey) (leg : Option LegDialog) (c : StandingCall) → is_s
 leg_tags key None c none = refl
 leg_tags key (Some leg) c none = absurd cc
 
--- all that is put beside a call but a dialog
+-- all that is put beside a call except a dialog
 tags_beside : (key : PrintKey) (kept : Beside) (c : StandingCall) → is_some kept.leg ≡ false → prints_of key (beside kept c) ≡ prints_of key c
 tags_beside key kept c none = last_tags key kept.answer (with_taken_if kept.taken (with_leg kept.leg c)) ∙ taken_tags key kept.taken (with_leg kept.leg c) ∙ leg_tags key kept.leg c none
 

@@ -7,7 +7,7 @@ use Rattle.calls.specs.declared.timer_id.CallTimerId.{CallTimerId}
 use Rattle.calls.specs.declared.standing_call.StandingCall.{StandingCall}
 
 -- the calls in the order in which they began, the pool, how many calls began, and the timers of calls, the first due
--- first; beside them for how many calls and timers more there is room
+-- first; with them, for how many more calls and timers there is room
 pub record Contents : Type 0 where
   pub calls : List StandingCall
   pub pool : pools.Contents

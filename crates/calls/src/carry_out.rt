@@ -154,7 +154,7 @@ fn begin_in(
 
 impl Calls {
     /// Carries out what was planned for the call at this place, with what comes with it, and returns the changes of
-    /// the relay table, by rising port; a call that is gone then is taken off the list. Where there is no call at the
+    /// the relay table, by rising port. A call that is gone then is taken off the list. Where there is no call at the
     /// place, nothing is done.
     pub(crate) fn carry_out(
         &mut self,

@@ -9,8 +9,8 @@ abbrev pub IsFile : Found → Type 0
 IsFile (File seconds nanos size) = Unit {0}
 IsFile NoFile = ⊥
 
--- What a look says that found this, where the one before it had found that, if there was one: a file is the same
--- exactly if its time of change and its size are.
+-- What a look says that found this, if the one before it, if any, had found that: a file is the same exactly if its
+-- time of change and its size are.
 abbrev pub Says : Option Found → Found → Look → Type 0
 Says before found Same = before ≡ Some found
 Says before found Changed = (before ≢ Some found) × IsFile found

@@ -25,7 +25,7 @@ pub struct FileWatch {
     last: Option<Found>,
 }
 
-/// What a look says that found this, if no earlier look found anything.
+/// What a look that found this says, if the look before it did not find the same.
 fn news_of(found: Found) -> Look
     ensures { Says None found result }
 {

@@ -50,7 +50,7 @@ has_users c = is_user_list c.users
 unfoldable pub has_lifetime : Config → Bool
 has_lifetime c = nat_le 1 c.min_expires && nat_le c.min_expires max_min_expires
 
--- it is no less, where there is one
+-- it is no less, if there is one
 abbrev pub reaches : ℕ → Option ℕ → Bool
 reaches least None = true
 reaches least (Some most) = nat_le least most
@@ -60,13 +60,13 @@ has_longest_lifetime c = reaches c.min_expires c.max_expires
 
 -- ---- the domain
 
--- a name, where one is configured
+-- a name, if one is configured
 unfoldable pub has_domain : Config → Bool
 has_domain c = passes_if_there is_domain c.domain
 
 -- ---- how long a call lasts
 
--- it is from 1 to the most, where there is one
+-- it is from 1 to the most, if there is one
 abbrev pub is_upto : ℕ → Option ℕ → Bool
 is_upto most None = true
 is_upto most (Some n) = nat_le 1 n && nat_le n most

@@ -211,7 +211,7 @@ what_row s now salt (whats.Datagram source bytes) = datagram_row s (setting now 
 what_row s now salt whats.Due = due_row s (setting now salt no_source) (first_due s.table.timers now) (first_due s.calls.timers now)
 -- media have stopped: the call's lifetime ends now
 what_row s now salt (whats.Silent number) = call_timer_row s (setting now salt no_source) (id number Lifetime)
--- who is a user already keeps its bindings
+-- one who is a user already keeps its bindings
 what_row s now salt (whats.Users users) = of_plan s (lists (kept_entries s.registrar.entries users))
 
 abbrev pub row_by : Contents → Event → Option Taken → Effect

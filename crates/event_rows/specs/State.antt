@@ -34,7 +34,7 @@ use Rattle.event_rows.specs.Tally.{counted, none_counted}
 -- the registrar, the transactions, the calls with their pool, the ACKs that are sent again, and the changes that the
 -- last event made in the relay table; where the server is reached, its relay ports, the least number of seconds that
 -- a binding has to last, and the milliseconds that a call may last; the greatest moment so far in milliseconds, how
--- many tokens were made, the number of events by answer, what the last was about, and whose bindings it set
+-- many tokens were made, how many events got each answer, what the last was about, and whose bindings it set
 pub record Contents : Type 0 where
   pub registrar : registrar.Contents
   pub table : transactions.Contents
@@ -153,7 +153,7 @@ pub record IsNew (c : Config) (s : Contents) : Type 0 where
   pub note : s.note ≡ Quiet
   pub registered : s.registered ≡ None
 
--- the first broken rule is reported; memory is requested where none is broken
+-- the first broken rule is reported; running out of memory is possible only where none is broken
 abbrev pub RefusesConfig : Config → ConfigError → Type 0
 RefusesConfig c OutOfMemory = first_broken c ≡ None
 RefusesConfig c RelayPorts = first_broken c ≡ Some RelayPorts

@@ -1,11 +1,11 @@
-//! The number of events by answer.
+//! How many events got each answer.
 
 ghost use Rattle.std.specs.Prelude.{◌≡◌};
 ghost use Rattle.event_rows.specs.Tally.{counted, none_counted, one_more};
 
 use plans::{Taken, Why};
 
-/// The number of events by answer, since the agent was made. A count that has reached 2^64 - 1 stays there. An event
+/// How many events got each answer, since the agent was made. A count that has reached 2^64 - 1 stays there. An event
 /// that was lost because memory ran out is not counted.
 #[derive(Clone, Copy)]
 pub struct Tally {

@@ -137,7 +137,7 @@ lost_after lost (Done taken failed) = 0
 lost_after lost Lost = one_more lost
 lost_after lost Behind = lost
 
--- a receive that succeeds, or a wait, starts the count of failures anew
+-- a receive that succeeds, or a wait, resets the count of failures
 abbrev pub streaks_after : Streaks → Round → Streaks
 streaks_after x (Fired turned) = record { failed = x.failed; lost = lost_after x.lost turned }
 streaks_after x (Heard turned) = record { failed = x.failed; lost = lost_after x.lost turned }

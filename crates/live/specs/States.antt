@@ -14,7 +14,7 @@ pub record WireState : Type 0 where
   pub waited : List ℕ
   pub failed : Bool
 
--- it was asked to send alone
+-- it was only asked to send
 pub record OnlySends (a b : WireState) : Type 0 where
   pub taken : b.taken ≡ a.taken
   pub rooms : b.rooms ≡ a.rooms

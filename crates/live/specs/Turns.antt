@@ -12,7 +12,7 @@ use Rattle.live.specs.States.{State}
 use Rattle.live.specs.declared.turn.Turned.{Turned}
 use Rattle.live.specs.declared.turn.Turned.TheVariants.{Done, Lost, Behind}
 
--- the lists of the board with one list of changes more, where there are any
+-- the lists of the board with one list of changes more, if there are any
 abbrev pub published : Lists → List Change → Lists
 published lists [] = lists
 published lists (c ∷ cs) = lists ++ (c ∷ cs) ∷ []

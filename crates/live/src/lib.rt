@@ -1,5 +1,5 @@
-//! The live server between its sockets and its clock: each event goes through the agent, its changes of the relay table
-//! are published, and then what it sends goes out. Sockets, clock and stop flag are handed in.
+//! The live server between its sockets and its clock: each event goes through the agent, its changes of the relay
+//! table are published, and then what it sends goes out. Sockets, clock and stop flag are passed in.
 #![tactic(auto)]
 
 mod buffer;

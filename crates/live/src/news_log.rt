@@ -1,4 +1,4 @@
-//! News that were handed in, for clauses alone.
+//! News that was handed in, only for clauses.
 
 ghost use Rattle.std.specs.Prelude.{◌≡◌, ◌∷◌, ◌++◌, [], OnErr, OnOk};
 ghost use Rattle.live.specs.News.{logged};

@@ -1,4 +1,4 @@
-//! Numbers that were noted, for clauses alone: it has no bytes.
+//! Numbers that were noted, only for clauses: it has no bytes.
 
 ghost use Rattle.std.specs.Prelude.{◌≡◌, ℕ, List, [], ◌∷◌, ◌++◌};
 ghost use Rattle.std.specs.Coded.{coded_list, coded_ℕ};

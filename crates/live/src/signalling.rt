@@ -74,7 +74,7 @@ impl<W> Signalling<W> {
         })
     }
 
-    /// Ends the board: no look-up is let in from then on.
+    /// Ends the board: no look-ups are admitted from then on.
     pub fn close<R: Wait>(self, rt: &R)
     where
         W: Drop,

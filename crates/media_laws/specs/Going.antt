@@ -1,4 +1,4 @@
--- How a call goes on that did a step, and has beside it what came with the event.
+-- How a call goes on that did a step, with what came with the event.
 use Rattle.std.specs.Prelude.{◌≡◌, Option, option_map}
 use Rattle.dialogs.specs.declared.identifiers.DialogId.{DialogId}
 use Rattle.dialogs.specs.declared.state.Dialog.{Dialog}
@@ -17,7 +17,7 @@ put_as w said call c = beside (put_with w said) (with_call call c)
 abbrev pub id_of : Option Dialog → Option DialogId
 id_of d = option_map (λ (x : Dialog). x.id) d
 
--- its dialogs have the identifiers of before
+-- its dialogs have the same identifiers as before
 pub record KeepsDialogs (c new : StandingCall) : Type 0 where
   pub caller : new.call.caller.id ≡ c.call.caller.id
   pub callee : id_of new.call.callee ≡ id_of c.call.callee

@@ -33,8 +33,8 @@ dialog_with_caller c = dialog_named c.call.caller.id
 abbrev pub dialog_with_callee : StandingCall → Option Dialog
 dialog_with_callee c = option_map (λ d. dialog_named d.id) c.call.callee
 
--- The calls come after the trace of this many events and show those of the agent, which began these transactions. The
--- whole media promise holds of them: with the agent's address, its relay table, and the holders of its ports.
+-- The calls stand after the trace of this many events and show those of the agent, which began these transactions.
+-- The whole media promise holds of them: with the agent's address, its relay table, and the holders of its ports.
 pub record KeepsPromise (s : Office) (begun : List Transaction) (t : List Datagram) (calls : List Call) (k : ℕ) : Type 0 where
   pub stands : Stands offering calls k t
   pub shown : Listed (ShowsCall s.table.slots begun t) s.calls.calls calls
@@ -44,7 +44,7 @@ pub record KeepsPromise (s : Office) (begun : List Transaction) (t : List Datagr
 abbrev pub HasPromisedCalls : Office → List Datagram → ℕ → Type 0
 HasPromisedCalls s t k = (begun : List Transaction) × (calls : List Call) × KeepsPromise s begun t calls k
 
--- ---- what the calls of an agent that stands give
+-- ---- what the calls of an agent that stands after a trace give
 
 -- the relay table, as a trace has it
 abbrev pub table_of : Rows → ℕ → Option Hop

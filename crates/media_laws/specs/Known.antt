@@ -50,7 +50,7 @@ pub record KnowsAgent (s : Office) (begun : List Transaction) (sent : List Sent)
 
 -- ---- the calls of the trace, after this many events
 
--- they show those of the server, and come after the trace; what is known of late 2xx, of the answers that were sent,
+-- they show those of the server, and stand after the trace; what is known of late 2xx, of the answers that were sent,
 -- and of the 200s to BYEs
 pub record IsTied (s : Office) (begun : List Transaction) (sent : List Sent) (t : List Datagram) (calls : List Call) (k : ℕ) : Type 0 where
   pub known : KnowsAgent s begun sent t

@@ -1,4 +1,4 @@
--- The calls after the trace of some events, and that an end has left.
+-- The calls that stand after the trace of some events, and those that an end has left.
 use Rattle.std.specs.Prelude.{◌≡◌, Bool, true, false, List, Option, Some, ◌⊎◌}
 use Rattle.call_core.specs.Calls.{has_session, holds_in}
 use Rattle.call_core.specs.declared.stage.Stage.{Stage}

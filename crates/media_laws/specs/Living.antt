@@ -1,4 +1,4 @@
--- The calls after the trace of some events, and the calls that are live in it.
+-- The calls that stand after the trace of some events, and the calls that are live in it.
 use Rattle.std.specs.Prelude.{◌≡◌, ◌≢◌, true, List, [], ◌∷◌, Some}
 use Rattle.call_core.specs.Calls.{has_session, holds_in}
 use Rattle.call_trace.specs.declared.datagram.Datagram.{Datagram}

@@ -1,5 +1,5 @@
--- How an agent comes after the trace of this many events: what is known of it, of the trace, and of the calls of that
--- trace.
+-- How an agent stands after the trace of this many events: what is known of it, of the trace, and of the calls of
+-- that trace.
 use Rattle.event_rows.specs.State.{Contents, office}
 use Rattle.event_rows.specs.Trace.{Entry}
 use Rattle.events.specs.declared.event.What.{What}
@@ -70,7 +70,7 @@ pub record Knows (s : Office) (begun : List Transaction) (sent : List Sent) (t :
 abbrev pub IsOfBegun : List Transaction → Message → Type 0
 IsOfBegun begun m = (u : Transaction) × IsAmong begun u × IsOffering u × IsRequestOf u.parts m
 
--- so it is of each INVITE and UPDATE that was sent
+-- the same holds for each INVITE and UPDATE that was sent
 abbrev pub AreOfBegun : List Transaction → List Datagram → Type 0
 AreOfBegun begun t = (i : ℕ) (q : Datagram) → AsksAt offering t i q → IsOfBegun begun q.message
 
@@ -90,29 +90,29 @@ pub record IsUpheld (s : Office) (begun : List Transaction) (sent : List Sent) (
 abbrev pub UpholdsCalls : Office → List Transaction → List Sent → List Datagram → ℕ → Type 0
 UpholdsCalls s begun sent t k = (calls : List Call) × IsUpheld s begun sent t calls k
 
--- ---- the agent comes after this trace of this many events
+-- ---- the agent stands after this trace of this many events
 
 abbrev pub AgentStands : Contents → List Datagram → ℕ → Type 0
 AgentStands s t k = (begun : List Transaction) × (sent : List Sent) × UpholdsCalls (office s) begun sent t k
 
--- an event that has this answer, and puts what it sends after what was sent: it comes after the trace with what that
+-- an event that has this answer, and puts what it sends after what was sent: it stands after the trace with what that
 -- took and sent
 abbrev pub StandsOn : Contents → What → Taken → List Sent → List Sent → Contents → Type 0
 StandsOn s what answer before now later =
     (t : List Datagram) (k : ℕ) → AgentStands s t k → (sends : List Sent) → now ≡ before ++ sends → (taken : Option Message) (ms : List Message) → IsPassed what answer sends taken ms
     → AgentStands later (t ++ passed k taken ms) (suc k)
 
--- entries that were put after those of before are of datagrams that came from addresses
+-- entries that were put after the earlier ones are of datagrams that came from addresses
 abbrev pub PutsFromSource : List Entry → List Entry → Type 0
 PutsFromSource before now = (more : List Entry) → now ≡ before ++ more → All EntersFromSource more
 
--- where an agent stood after a trace of this many events: these entries have a trace, and it comes after that with
+-- where an agent stood after a trace of this many events: these entries have a trace, and it stands after that with
 -- any trace of theirs
 pub record StandsAfter (t : List Datagram) (k : ℕ) (more : List Entry) (later : Contents) : Type 0 where
   pub trace : (rest : List Datagram) × AreTrace k more rest
   pub stands : (rest : List Datagram) → AreTrace k more rest → AgentStands later (t ++ rest) (k + length more)
 
--- so it is of entries that were put after those of before
+-- the same holds for entries that were put after the earlier ones
 abbrev pub StandsThrough : Contents → List Entry → List Entry → Contents → Type 0
 StandsThrough s before now later = (t : List Datagram) (k : ℕ) → AgentStands s t k → (more : List Entry) → now ≡ before ++ more → StandsAfter t k more later
 

@@ -61,7 +61,7 @@ pub record KeepsMedia (c new : ServerCall) : Type 0 where
   pub session : (new.media.session ≡ c.media.session) ⊎ (new.media.session ≡ None)
   pub offer : (new.media.offer ≡ c.media.offer) ⊎ (new.media.offer ≡ None)
 
--- the result: what the line of the signal says and leads to, in the dialogs of before
+-- the result: what the line of the signal says and leads to, in the earlier dialogs
 pub record IsSignalStep (c : ServerCall) (n : Standing) (signal : Signal) (step : Step) : Type 0 where
   pub actions : step.actions ≡ actions_in (row_of n signal)
   pub next : step.call.standing ≡ next_in n (row_of n signal)
@@ -69,7 +69,7 @@ pub record IsSignalStep (c : ServerCall) (n : Standing) (signal : Signal) (step 
   pub caller : step.call.caller ≡ c.caller
   pub callee : step.call.callee ≡ c.callee
 
--- the requests that carry its open offer are those of before
+-- the requests that carry its open offer are the earlier ones
 abbrev pub OpensAlike : StandingCall → StandingCall → Type 0
 OpensAlike c new = (parts : Parts) → is_open parts new ≡ is_open parts c
 

@@ -1,5 +1,5 @@
--- A call of the server's that takes a signal, beside the call of the trace that shows it: what a line of its table asks
--- for.
+-- A call of the server's that takes a signal, next to the call of the trace that shows it: what a line of its table
+-- asks for.
 use Rattle.std.specs.Prelude.{◌≡◌, ℕ, Bool, true, false, List, Option, Some, slice_get}
 use Rattle.transactions.specs.declared.transaction.Transaction.{Transaction}
 use Rattle.call_core.specs.declared.signal.Signal.{Signal}

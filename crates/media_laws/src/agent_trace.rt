@@ -1,4 +1,4 @@
-//! How an agent comes after the trace of its events.
+//! How an agent stands after the trace of its events.
 
 ghost use Rattle.std.specs.Prelude.{◌≡◌, ◌++◌, ◌+◌, [], suc, ℕ, length, List, Option};
 ghost use Rattle.std.specs.List.{All};
@@ -28,13 +28,13 @@ use sip_writing::written_is_read;
 use trace_reading::bodies_describe;
 use transactions::replies;
 
-/// A new agent, whose configuration keeps the rules, comes after the empty trace. An agent that comes after a trace
-/// comes after it with what an event took and sent, where its datagram came from an address; so it is of what it
-/// answers and puts after what was sent, each of which is a message by the grammar, and of entries one after another,
-/// which have a trace. The whole media promise holds for an agent that comes after a trace, with its address, its
-/// relay table and the holders of its ports; a held pair is held by a current call, which is the live one that names
-/// it; while no offer is open in a call, it holds only the pairs of its session; and its calls that were answered,
-/// and that no end has left, are exactly the live ones of the trace, each once.
+/// A new agent, whose configuration keeps the rules, stands after the empty trace. An agent that stands after a trace
+/// stands after it with what an event took and sent, where its datagram came from an address. The same holds for what
+/// it answers and puts after what was sent, each of which is a message by the grammar, and of entries one after
+/// another, which have a trace. The whole media promise holds for an agent that stands after a trace, with its
+/// address, its relay table and the holders of its ports. A held pair is held by a current call, by the live one
+/// where one names it. While no offer is open in a call, it holds only the pairs of its session. Its calls that were
+/// answered, and that no end has left, are exactly the live ones of the trace, each once.
 pub fn agents_stand()
     ensures begins { (config : Config) (s : Contents) → IsConfigured config → IsNew config s → AgentStands s [] 0 }
     ensures event { (s : Contents) (event : Event) (t : List Datagram) (k : ℕ) → AgentStands s t k → ComesFromSource event.what →

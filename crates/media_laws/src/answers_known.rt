@@ -26,10 +26,10 @@ ghost use Rattle.media_laws.specs.Ties.{AreTied};
 ghost use Rattle.message_laws.specs.Asked.{KnowsAsked};
 ghost use Rattle.transactions.specs.declared.transaction.Transaction.{Transaction};
 
-/// Of the trace of a new agent, and after any event whose messages move the calls of the trace: each answer to an
-/// INVITE or UPDATE that was sent has a tag that was made; and where a current call has this tag in the dialog with
-/// one of its ends, that has taken a request with the number of the answer, or with a greater one. So each such
-/// answer in a dialog of a call is to no request that is still to come there.
+/// For the trace of a new agent, and after any event whose messages move the calls of the trace, the following holds.
+/// Each answer to an INVITE or UPDATE that was sent has a tag that was made. Where a current call has this tag in the
+/// dialog with one of its ends, that has taken a request with the number of the answer, or with a greater one. So
+/// each such answer in a dialog of a call is to no request that is still to come there.
 pub fn answers_are_known()
     ensures begins { (config : Config) (s : Contents) → IsNew config s → KnowsAnswers (office s) [] }
     ensures step { (s : Contents) (event : Event) (begun : List Transaction) (sent : List Sent) (t : List Datagram) (ds : List Call) (k : ℕ)

@@ -25,9 +25,9 @@ use offer_answer::sent_is_read;
 use sip_writing::written_is_read;
 use trace_reading::{bodies_describe, bytes_say_all};
 
-/// Of the trace of a new agent, and after any event whose datagram, if one came, came from an address: each 200 to a
-/// BYE that was sent has in To a tag that was made. So a token that is made next is a new tag in the trace: no BYE was
-/// sent with it in From, and no 200 to one with it in To.
+/// For the trace of a new agent, and after any event whose datagram, if one came, came from an address, the following
+/// holds. Each 200 to a BYE that was sent has in To a tag that was made. So a token that is made next is a new tag in
+/// the trace: no BYE was sent with it in From, and no 200 to one with it in To.
 pub fn byes_are_known()
     ensures begins { (config : Config) (s : Contents) → IsNew config s → KnowsByes (office s) [] }
     ensures step { (s : Contents) (event : Event) (begun : List Transaction) (sent : List Sent) (t : List Datagram) (ds : List Call) (k : ℕ)

@@ -23,7 +23,7 @@ ghost use Rattle.trace_reading.specs.Message.{trace_message};
 ghost use Rattle.message_laws.specs.Messages.{IsRequestOf};
 
 /// The call that is put in place of one that did a step has its dialogs, where what comes with the event is one of
-/// them, so that the trace goes on to show its legs; where that is the dialog that the first 2xx makes, the callee's
+/// them, so that the trace goes on to show its legs. Where that is the dialog that the first 2xx makes, the callee's
 /// leg gets the response's tag. Where it still has a stage, its session and its open offer are those of the step, and
 /// its last offer is the one that was taken last.
 pub fn calls_go_on()

@@ -17,9 +17,8 @@ ghost use Rattle.media_laws.specs.Lines.{HasLegs, IsAt};
 ghost use Rattle.media_laws.specs.Shows.{ShowsCall};
 ghost use Rattle.transactions.specs.declared.transaction.Transaction.{Transaction};
 
-/// Where a current call is listed by the trace, the trace's call is as a line of that stage asks; and where the
-/// dialog that comes with an event, if one comes, is one of the call's, its scene has the legs that the line asks
-/// for.
+/// Where a current call is listed by the trace, the trace's call is as a line of that stage asks. Where the dialog
+/// that comes with an event, if one comes, is one of the call's, its scene has the legs that the line asks for.
 pub fn listed_calls_stand()
     ensures at { (slots : List (Option Transaction)) (begun : List Transaction) (t : List Datagram) (c : StandingCall) (n : Standing) (d : Call) →
         c.call.standing ≡ Some n → ShowsCall slots begun t c d → IsAt n.offerer n.stage d }

@@ -24,7 +24,7 @@ use trace_reading::{bodies_describe, bytes_say_all};
 use transactions::replies;
 
 /// Where the calls of a trace show the current ones, each event of the agent, whatever it is, is a move of the
-/// trace's calls, by what it took and what it sent; and after it the trace's calls show the calls current then. A
+/// trace's calls, by what it took and what it sent. After it the trace's calls show the calls current then. A
 /// datagram comes from an address, and what is known of the agent is known of it after the event too.
 pub fn events_are_moves()
     ensures { (s : Contents) (event : Event) (begun : List Transaction) (sent : List Sent) (t : List Datagram) (old : List Call) (k : ℕ) →

@@ -25,10 +25,10 @@ ghost use Rattle.media_laws.specs.Inputs.{IsAwaitedBy, Took, is_bye_signal};
 ghost use Rattle.media_laws.specs.Lines.{HasLegs, HiddenMove, IsAt, IsTagOfNone, LineMove, SaysNone, actions_in, next_in, standing};
 ghost use Rattle.media_laws.specs.Scenes.{LegIn};
 
-/// What a call does for a signal that is no offer and no fit answer is a move of the trace's calls, where the trace
-/// lists the call as its stage asks, its legs are there, and what was taken is what the signal means: no call moves;
-/// the call goes, or is no longer listed; its open offer is gone; or one end has left it. Behind the messages that
-/// move none, a trace hears just the actions of the line.
+/// What a call does for a signal that is neither an offer nor a fit answer is a move of the trace's calls, where the
+/// trace lists the call as its stage asks, its legs are there, and what was taken is what the signal means. No call
+/// moves; or the call goes, or is no longer listed; or its open offer is gone; or one end has left it. After the
+/// messages that move none, a trace hears just the actions of the line.
 pub fn lines_are_moves()
     ensures line { (t : List Datagram) (ds : List Call) (k : ℕ) (d : Call) → AllApart ds → slice_get ds k ≡ Some d → HasTags d →
         (taken : Option Message) (before : List Message) → AllOf (IsIdle offering t taken) before → (s : Scene) (tokens : ℕ) (x : End) (stage : Stage) (signal : Signal) →

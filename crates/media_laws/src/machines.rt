@@ -8,8 +8,8 @@ ghost use Rattle.events.specs.declared.event.Event.{Event};
 ghost use Rattle.media_laws.specs.Machines.{KnowsMachines};
 ghost use Rattle.std.specs.Prelude.{List};
 
-/// Of a new agent, and after any event: each client transaction of an INVITE's machine is of an INVITE. So it is after
-/// any events of a new agent.
+/// For a new agent, and after any event: each client transaction of an INVITE's machine is of an INVITE. The same
+/// holds after any events of a new agent.
 pub fn machines_are_known()
     ensures begins { (config : Config) (s : Contents) → IsNew config s → KnowsMachines (office s) }
     ensures step { (s : Contents) (event : Event) → KnowsMachines (office s) → KnowsMachines (office (after s event)) }

@@ -15,7 +15,7 @@ ghost use Rattle.message_laws.specs.Traces.{AreTrace};
 use crate::agents_stand;
 
 /// After any entries of a new agent, whose configuration keeps the rules and whose datagrams came from addresses, some
-/// of which may have been lost, calls come after the trace of them and show those of the agent; and the whole media
+/// of which may have been lost, calls stand after the trace of them and show those of the agent. The whole media
 /// promise holds of the trace, with the agent's address, its relay table, the holders of its ports, and these calls.
 /// And the agent's own calls that were answered, and that no end has left, are exactly the live ones of the trace.
 pub fn agents_keep_the_promise()

@@ -19,7 +19,7 @@ ghost use Rattle.sip_message.specs.declared.message.Response.{Response};
 ghost use Rattle.sip_uri.specs.declared.uri.Uri.{Uri};
 
 /// A request in a dialog counts its number in that dialog, which has the same identifiers afterwards, also where it
-/// says another target; so does a 2xx from an end with which the call has a dialog. The first 2xx of the callee makes
+/// says another target. So does a 2xx from an end with which the call has a dialog. The first 2xx of the callee makes
 /// one.
 pub fn dialogs_that_come_fit()
     ensures counted { (calls : List StandingCall) (place : ℕ) (end : End) (number : ℕ) (c : StandingCall) → slice_get calls place ≡ Some c →

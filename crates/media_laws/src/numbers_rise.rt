@@ -11,10 +11,10 @@ ghost use Rattle.media_laws.specs.Rising.{RisesFrom};
 ghost use Rattle.media_laws.specs.Taken.{KnowsTaken};
 ghost use Rattle.message_laws.specs.Knowing.{KnowsTokens};
 
-/// Of a new agent, and after any event: the number of the offer that a call took last, while that has no final
-/// response, counts in the dialog with its offerer. And each call after an event is one of before, whose dialogs have
-/// taken what they had, with the same tags of the server's; or it begins at this event, and its tags are made then. So
-/// it is after any events of a new agent.
+/// For a new agent, and after any event: the number of the offer that a call took last, while that has no final
+/// response, counts in the dialog with its offerer. And each call after an event is an earlier one, whose dialogs
+/// have taken what they had, with the same tags of the server's; or it begins at this event, and its tags are made
+/// then. The same holds after any events of a new agent.
 pub fn taken_numbers_rise()
     ensures begins { (config : Config) (s : Contents) → IsNew config s → KnowsTaken (office s) }
     ensures step { (s : Contents) (event : Event) → KnowsTokens (office s) → KnowsTaken (office s) → KnowsTaken (office (after s event)) }

@@ -21,7 +21,7 @@ ghost use Rattle.media_laws.specs.Shows.{ShowsLegs, is_caller};
 ghost use Rattle.trace_reading.specs.Message.{dialog_named, trace_message};
 
 /// An INVITE or UPDATE with a description that an end sends in its dialog of a call is an offer in that dialog, as the
-/// trace names it, and its To has the server's tag there; a first INVITE that was read is one in the dialog that its
+/// trace names it, and its To has the server's tag there. A first INVITE that was read is one in the dialog that its
 /// 2xx begins, and its To has no tag (RFC 3261 section 12.1.1).
 pub fn requests_are_offers()
     ensures later { (standing : List StandingCall) (r : Request) (place : ℕ) (end : End) (c : StandingCall) (d : Call) (offer : Description) (bytes : List ℕ) →

@@ -36,9 +36,9 @@ use offer_answer::sent_is_read;
 use sip_writing::written_is_read;
 use trace_reading::{bodies_describe, bytes_say_all};
 
-/// Where an offer is passed on, the event is a move of the trace's calls, and after it the trace's calls show the
+/// Where an offer is passed on, the event is a move of the trace's calls. After it the trace's calls show the
 /// server's: the first INVITE of a caller begins a call, whose tags are made now; and in a call that was answered the
-/// offer of either end is open beside the session of before. No answer was sent to it yet: each that was has another
+/// offer of either end is open beside the earlier session. No answer was sent to it yet: each that was has another
 /// tag, or a number that was taken before.
 pub fn offers_go_on()
     ensures first { (s after : Office) (begun more : List Transaction) (sent : List Sent) (t : List Datagram) (old : List Call) (k : ℕ) → StandsShown s begun t old k →

@@ -33,9 +33,9 @@ use dialogs::{contacts_are_read, dialogs_are_sound};
 use sip_writing::written_is_read;
 use trace_reading::bytes_say_all;
 
-/// A request that the server answers by itself moves no call of the trace, whichever trace and calls there were: one
-/// that can't be read, or has another branch; one that a rule replies to; one in a dialog that is refused; a first
-/// INVITE that is refused; and an UPDATE without an offer.
+/// A request that the server answers by itself moves no call of the trace, whatever trace and calls there were. Such
+/// a request is one that can't be read, or has another branch; one that a rule replies to; one in a dialog that is
+/// refused; a first INVITE that is refused; or an UPDATE without an offer.
 pub fn requests_move_none()
     ensures unreadable { (t : List Datagram) (ds : List Call) (taken : Option Message) (bytes : List ℕ) (ms : List Message) → IsTakenOf bytes taken →
         (s : Office) (e : Setting) → IsSource e.source → (parts : Parts) (reason : Reason) → answerable_of bytes ≡ Some parts →

@@ -41,8 +41,8 @@ use sip_writing::written_is_read;
 use trace_reading::{bodies_describe, bytes_say_all};
 
 /// Where a call that the trace lists takes a BYE of one of its ends, the CANCEL of its offer, or the ACK of its 200,
-/// the event is a move of the trace's calls, and after it the trace's calls show the server's: the call is gone, was
-/// left by that end, is no longer listed, or goes on waiting.
+/// the event is a move of the trace's calls. After it the trace's calls show the server's: the call is gone, was left
+/// by that end, is no longer listed, or goes on waiting.
 pub fn requests_go_on()
     ensures bye { (s after : Office) (begun more : List Transaction) (sent : List Sent) (t : List Datagram) (old : List Call) (k : ℕ) → StandsShown s begun t old k →
         IsAfter s after (begun ++ more) → KnowsTrace s begun sent t → KnowsSent s sent → KnowsLegs s → (e : Setting) → IsSource e.source → (place : ℕ)

@@ -41,8 +41,8 @@ use trace_reading::{bodies_describe, bytes_say_all};
 use transactions::replies;
 
 /// Where a call that the trace lists takes an early response, a refusal of its open offer, or a 2xx to it that is not
-/// fit, the event is a move of the trace's calls, with what the transaction sends in it, the ACK of a refusal too; and
-/// after it the trace's calls show the server's.
+/// fit, the event is a move of the trace's calls, with what the transaction sends in it, the ACK of a refusal too.
+/// After it the trace's calls show the server's.
 pub fn responses_go_on()
     ensures ringing { (s after : Office) (begun more : List Transaction) (sent : List Sent) (t : List Datagram) (old : List Call) (k : ℕ) → StandsShown s begun t old k →
         IsAfter s after (begun ++ more) → AreTied s begun sent t old → KnowsLegs s → (e : Setting) (place : ℕ) (c : StandingCall) (n : Standing)

@@ -33,9 +33,9 @@ ghost use Rattle.trace_reading.specs.Message.{dialog_named, trace_message};
 ghost use Rattle.message_laws.specs.Messages.{IsRequestOf};
 
 /// The scene of a current call has each dialog of the call, as the trace names it, with an address and a number that
-/// is left; where an offer is passed on, also a number for that. Where the first 2xx of the callee comes, it has the
-/// dialog that this makes, which is the leg of the INVITE with the response's tag; and the leg of a first INVITE is
-/// one to which that can be sent.
+/// is left. Where an offer is passed on, it also has a number for that. Where the first 2xx of the callee comes, it
+/// has the dialog that this makes, which is the leg of the INVITE with the response's tag. The leg of a first INVITE
+/// is one to which that can be sent.
 pub fn scenes_have_their_legs()
     ensures leg { (s : Office) (e : Setting) (w : ComingValue) (c : StandingCall) (description : Option Description) (d : Call) (end : End) (old : Dialog) →
         HasSoundLegs c → HasNumbersLeft c → ShowsLegs c d → FitsComing c w.leg → dialog_of end c.call ≡ Some old →

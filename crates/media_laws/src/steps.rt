@@ -49,8 +49,8 @@ use sip_writing::written_is_read;
 use trace_reading::bytes_say_all;
 
 /// A step of a call that takes no offer and no fit answer does what the line of its signal says, and leads where that
-/// leads; its dialogs are those of before, and its session and its open offer are kept or given up. So it is of the
-/// call that is put in its place.
+/// leads. Its dialogs are the earlier ones, and its session and its open offer are kept or given up. The same holds
+/// for the call that is put in its place.
 pub fn signal_steps_are_lines()
     ensures step { (c : ServerCall) (n : Standing) (input : Input) (signal : Signal) (pool : Contents) (now : ℕ) → c.standing ≡ Some n →
         IsSignalOf c input signal → IsSignalStep c n signal (call_row c input pool now) }
@@ -85,9 +85,9 @@ pub fn answers_go_again()
     written_is_read();
 }
 
-/// Where a call that the trace lists takes a signal that is no offer and no fit answer, with what comes with it in the
-/// scene of its step, and the trace hears what the line of the signal says, after what moves no call: that is a move,
-/// and the trace's calls after it show the server's.
+/// Where a call that the trace lists takes a signal that is neither an offer nor a fit answer, with what comes with
+/// it in the scene of its step, and the trace hears what the line of the signal says, after what moves no call: that
+/// is a move, and the trace's calls after it show the server's.
 pub fn signals_go_on()
     ensures { (slots : List (Option Transaction)) (begun more : List Transaction) (t : List Datagram) (cs : List StandingCall) (old : List Call) (place : ℕ)
         (c : StandingCall) (n : Standing) → c.call.standing ≡ Some n → slice_get cs place ≡ Some c → (spot : HasSpot slots begun t cs old place c) →

@@ -54,9 +54,9 @@ pub fn steps_are_heard()
     sent_is_read();
 }
 
-/// Where a call that the trace lists takes an input that is no offer and no fit answer, as the agent's row says it,
-/// that is a move of the trace's calls, with what the transactions send before it; and after it the trace's calls show
-/// the server's. What comes is what the trace took, and the calls afterwards are those of the row.
+/// Where a call that the trace lists takes an input that is neither an offer nor a fit answer, as the agent's row
+/// says it, that is a move of the trace's calls, with what the transactions send before it. After it the trace's
+/// calls show the server's. What comes is what the trace took, and the calls afterwards are those of the row.
 pub fn takes_go_on()
     ensures { (s after : Office) (begun more : List Transaction) (t : List Datagram) (old : List Call) (k : ℕ) → StandsShown s begun t old k →
         IsAfter s after (begun ++ more) → (e : Setting) (place : ℕ) (c : StandingCall) (n : Standing) (input : Input) (signal : Signal)
@@ -78,7 +78,7 @@ pub fn takes_go_on()
 }
 
 /// Where a timer is due that a call which the trace lists takes, of its own or of its request, the event is a move of
-/// the trace's calls, and after it the trace's calls show the server's, whatever is known after it as in each other
+/// the trace's calls. After it the trace's calls show the server's, whatever is known after it as in each other
 /// event.
 pub fn timers_go_on()
     ensures { (s after : Office) (begun more : List Transaction) (sent : List Sent) (t : List Datagram) (old : List Call) (k : ℕ) → StandsShown s begun t old k →

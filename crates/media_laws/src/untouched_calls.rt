@@ -32,8 +32,8 @@ pub fn open_offers_stay_unanswered()
 
 /// A call that an event leaves as it was is shown by the longer trace as it was by the shorter one, where the trace
 /// lists it after the move of the event as before: the requests that begin have greater numbers than that of its open
-/// offer, and nothing answers that. So it is of a list of calls of which the event changed none; and of one of which it
-/// changed one, which shows itself.
+/// offer, and nothing answers that. The same holds for a list of calls of which the event changed none, and for one
+/// of which it changed one, which shows itself.
 pub fn calls_left_stay_shown()
     ensures call { (slots : List (Option Transaction)) (s : Office) (begun more : List Transaction) (n : ℕ) (t : List Datagram) (old : List Call)
         (taken : Option Message) (sent : List Message) (new : List Call) → Move offering t old taken sent new → AllApart new →

@@ -53,7 +53,7 @@ IsServed slots c = waits_for c ≡ true → IsUnanswered slots c.asked.id
 abbrev pub KeepsRequest : List (Option Transaction) → List (Option Transaction) → ℕ → Type 0
 KeepsRequest slots later id = (x : Transaction) → at slots id ≡ Some x → (y : Transaction) × (at later id ≡ Some y) × (y.parts ≡ x.parts)
 
--- so it is of the one in which the offer came, while the call waits
+-- the same holds for the one in which the offer came, while the call waits
 abbrev pub KeepsAsked : List (Option Transaction) → List (Option Transaction) → StandingCall → Type 0
 KeepsAsked slots later c = waits_for c ≡ true → KeepsRequest slots later c.asked.id
 

@@ -42,7 +42,7 @@ awaits_callee (Reanswered interval) = false
 awaits_callee Updating = false
 awaits_callee (Ending interval) = false
 
--- there is a dialog with the end that is asked, but for the first INVITE
+-- there is a dialog with the end that is asked, except for the first INVITE
 abbrev pub has_leg : Option Dialog → Option Standing → Bool
 has_leg None standing = holds_in awaits_callee standing
 has_leg (Some d) standing = true

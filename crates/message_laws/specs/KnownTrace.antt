@@ -36,7 +36,7 @@ HasBytes t d = (k : ℕ) × (q : Datagram) × At t k q × (q.direction ≡ direc
 
 -- ---- the server's own INVITEs and UPDATEs
 
--- the request of the transaction is live in the trace
+-- the request of the transaction is in the trace
 abbrev pub IsRequested : List Datagram → Transaction → Type 0
 IsRequested t u = (i : ℕ) × (q : Datagram) × AsksAt offering t i q × IsRequestOf u.parts q.message
 

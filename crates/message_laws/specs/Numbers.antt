@@ -94,7 +94,7 @@ pub record IsByeOf (c : StandingCall) (t : Transaction) : Type 0 where
   pub ours : has_tag (from_tag t) c ≡ true
   pub theirs : HasTheirTag (tag_text t.parts.to.params) (dialog_of (asked_end t.parts c) c.call)
 
--- its number is greater than that of this INVITE or UPDATE of before, if that was in the same leg
+-- its number is greater than that of this earlier INVITE or UPDATE, if that was in the same leg
 abbrev pub IsPast : Transaction → Transaction → Type 0
 IsPast t v = IsOffering v → from_tag v ≡ from_tag t → v.parts.cseq.number < t.parts.cseq.number
 

@@ -30,7 +30,7 @@ abbrev pub IsQuietStatus : Parts → ℕ → Type 0
 IsQuietStatus request status = (is_success (kinds.Response status) ≡ false) ⊎ MovesNone request
 
 -- of the replies of the server's own, three are a 200, or may be (RFC 3261 sections 9.2, 10.3 and 11.2); each other is
--- a refusal, which is no 2xx
+-- a refusal, which is not a 2xx
 abbrev pub IsQuietReply : Request → Reply → Type 0
 IsQuietReply r (reply.CancelOf other) = MovesNone r.parts
 IsQuietReply r (reply.Refusal reason) = Unit {0}

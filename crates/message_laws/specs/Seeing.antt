@@ -34,7 +34,8 @@ pub record SeesLike (invite : Parts) (to : NameAddr) (name : List ℕ) (m : Mess
   pub method : m.method ≡ name
   pub description : m.description ≡ None
 
--- the tag of To in a response: the request's, or where that has none the given one, but for a 100 (section 8.2.6.2)
+-- the tag of To in a response: the request's, or where that has none the given one, except for a 100 (section
+-- 8.2.6.2)
 abbrev pub response_tag : ℕ → Parts → List ℕ → List ℕ
 response_tag status request tag = unwrap_or (value_found (answered_tag status (tag_of request.to.params) tag)) []
 

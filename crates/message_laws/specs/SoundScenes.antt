@@ -68,7 +68,7 @@ abbrev pub CanSayIf : Option Asker → Type 0
 CanSayIf None = Unit {0}
 CanSayIf (Some a) = CanSay a.parts.now a.source a.tag.now
 
--- one that gets a 200 without a description is no INVITE
+-- one that gets a 200 without a description is not an INVITE
 abbrev pub IsNoInvite : Parts → Type 0
 IsNoInvite parts = pointwise nat_eq parts.cseq.method (codes "INVITE") ≡ false
 

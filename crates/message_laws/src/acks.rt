@@ -8,9 +8,9 @@ ghost use Rattle.events.specs.declared.event.Event.{Event};
 ghost use Rattle.message_laws.specs.Acks.{HasAck, KnowsAcks};
 ghost use Rattle.transactions.specs.Slots.{at};
 
-/// Of a new agent, and after any event: each ACK that is kept is of a live client transaction that had its final
-/// response; and for a transaction for which one is kept, one is kept until that transaction ends, whether its call
-/// is live or not.
+/// For a new agent, and after any event, the following holds. Each ACK that is kept is of a live client transaction
+/// that had its final response. For a transaction for which one is kept, one is kept until that transaction ends,
+/// whether its call is live or not.
 pub fn acks_are_kept()
     ensures begins { (config : Config) (s : Contents) → IsNew config s → KnowsAcks (office s) }
     ensures step { (s : Contents) (event : Event) → KnowsAcks (office s) → KnowsAcks (office (after s event)) }

@@ -45,9 +45,9 @@ pub fn address_has_four_octets(config: &Config)
     octets_fit(&config.ip);
 }
 
-/// Of a new agent, whose configuration keeps the rules, and after any event: each description that the media of a call
-/// keep was read of a body that fits into a datagram, or is what the server sends in place of one, at its own address
-/// and ports. So it is after any events of a new agent.
+/// For a new agent, whose configuration keeps the rules, and after any event, the following holds. Each description
+/// that the media of a call keep was read of a body that fits into a datagram, or is what the server sends in place
+/// of one, at its own address and ports. The same holds after any events of a new agent.
 pub fn descriptions_are_known()
     ensures begins { (config : Config) (s : Contents) → KeepsRules config → HasFourOctets config.ip → IsNew config s → KnowsDescriptions (office s) }
     ensures step { (s : Contents) (event : Event) → KnowsDescriptions (office s) → KnowsDescriptions (office (after s event)) }

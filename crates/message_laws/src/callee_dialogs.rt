@@ -12,8 +12,9 @@ ghost use Rattle.message_laws.specs.Waiting.{KnowsWaiting};
 
 use dialogs::invites_name_a_contact;
 
-/// Of a new agent, and after any event: a call has a dialog with its callee, unless its first INVITE has no answer; and
-/// until then each request of the server's own to the callee is an INVITE. So it is after any events of a new agent.
+/// For a new agent, and after any event, the following holds. A call has a dialog with its callee, unless its first
+/// INVITE has no answer. Until then each request of the server's own to the callee is an INVITE. The same holds after
+/// any events of a new agent.
 pub fn answered_calls_have_callees()
     ensures begins { (config : Config) (s : Contents) → IsNew config s → KnowsCallees (office s) }
     ensures step { (s : Contents) (event : Event) → KnowsTokens (office s) → KnowsWaiting (office s) → KnowsCallees (office s) →

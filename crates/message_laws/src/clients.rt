@@ -17,9 +17,9 @@ ghost use Rattle.transactions.specs.declared.transaction.Transaction.{Transactio
 
 use dialogs::{contacts_are_read, dialogs_are_sound};
 
-/// Of a new agent, and after any event: each request of the server's own whose transaction is live is of values that
-/// came out of messages, or are of their form; and no dialog of a call counts past the numbers that CSeq can say. So
-/// it is after any events of a new agent.
+/// For a new agent, and after any event, the following holds. Each request of the server's own whose transaction is
+/// live is of values that came out of messages, or are of their form. No dialog of a call counts past the numbers
+/// that CSeq can say. The same holds after any events of a new agent.
 pub fn clients_are_sound()
     ensures begins { (config : Config) (s : Contents) → IsConfigured config → IsNew config s → KnowsClients (office s) }
     ensures step { (s : Contents) (event : Event) → KnowsDialogs (office s) → KnowsClients (office s) → KnowsClients (office (after s event)) }

@@ -21,10 +21,10 @@ ghost use Rattle.message_laws.specs.Sending.{KnowsSent};
 use sip_writing::written_is_read;
 use trace_reading::bodies_describe;
 
-/// Of a new agent, and after any event of a datagram that came from an address: what the responses to each request
-/// repeat was read; the transaction of a call's open offer is live, without a final response, and no other call
-/// answers it; and each datagram that is sent is a request of the server's own, or a response that reads back as the
-/// one that it was dressed as. About the 200 to a REGISTER, this says only how it was made.
+/// For a new agent, and after any event of a datagram that came from an address, the following holds. What the
+/// responses to each request repeat was read. The transaction of a call's open offer is live, without a final
+/// response, and no other call answers it. Each datagram that is sent is a request of the server's own, or a response
+/// that reads back as the one that it was dressed as. About the 200 to a REGISTER, this says only how it was made.
 pub fn responses_are_read()
     ensures begins { (config : Config) (s : Contents) → IsConfigured config → IsNew config s → KnowsAskers (office s) }
     ensures step { (s : Contents) (event : Event) (sent : List Sent) → ComesFromSource event.what → KnowsTokens (office s) → KnowsSent (office s) sent →
@@ -42,9 +42,9 @@ pub fn responses_are_read()
     bodies_describe();
 }
 
-/// At any event of a datagram that came from an address: where a call waits for an answer afterwards, and its offer's
-/// transaction was live before, that transaction keeps the same request, so that the answer goes to the request that
-/// offered (RFC 3261 section 17.2).
+/// At any event of a datagram that came from an address, the following holds. Where a call waits for an answer
+/// afterwards, and its offer's transaction was live before, that transaction keeps the same request, so that the
+/// answer goes to the request that offered (RFC 3261 section 17.2).
 pub fn open_offers_keep_their_requests()
     ensures { (s : Contents) (event : Event) (sent : List Sent) → ComesFromSource event.what → KnowsTokens (office s) → KnowsSent (office s) sent →
         KnowsDescriptions (office s) → KnowsAskers (office s) → All IsOwnDatagram sent →

@@ -30,11 +30,12 @@ use sip_writing::written_is_read;
 use trace_reading::bodies_describe;
 use transactions::replies;
 
-/// Of a new agent, of whose events there is no trace, and after any event, whatever its number: each message of the
-/// trace is that of its bytes; what was sent is in it; the texts of the server's own in it were made; the INVITEs and
-/// UPDATEs that the server began are in it, and those whose transactions are live are among them, each with a final
-/// response that was taken where it waits for none; and a transaction keeps a message of its own side. So it is after
-/// an entry, which shows nothing where its event was lost, and after any entries of a new agent.
+/// For a new agent, of whose events there is no trace, and after any event, whatever its number, the following holds.
+/// Each message of the trace is that of its bytes. What was sent is in it. The texts of the server's own in it were
+/// made. The INVITEs and UPDATEs that the server began are in it, and those whose transactions are live are among
+/// them, each with a final response that was taken where it waits for none. A transaction keeps a message of its own
+/// side. The same holds after an entry, which shows nothing where its event was lost, and after any entries of a new
+/// agent.
 pub fn traces_are_known()
     ensures begins { (config : Config) (s : Contents) → IsNew config s → KnowsTrace (office s) [] [] [] }
     ensures step { (s : Contents) (event : Event) (n : ℕ) (begun : List Transaction) (sent : List Sent) (t : List Datagram) (taken : Option Message)

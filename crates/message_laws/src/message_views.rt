@@ -40,7 +40,7 @@ ghost use Rattle.message_laws.specs.Saying.{OneIf, ReadsBackIf, SeesAction, Sees
 ghost use Rattle.message_laws.specs.Seeing.{SeesLike, SeesRequest, SeesResponse};
 
 /// In a trace a request that a call sends in a dialog names the dialog by its Call-ID and tags, and has the branch of
-/// its token, its number and its method; an offer that reads back is its description, and ACK and BYE have none (RFC
+/// its token, its number and its method. An offer that reads back is its description, and ACK and BYE have none (RFC
 /// 3261 section 12.2.1.1).
 pub fn requests_are_seen()
     ensures describes { (bytes : List ℕ) (server : Addr) (d : Dialog) (via : Via) (method : List ℕ) (number hops : ℕ) (description : Description) →
@@ -63,8 +63,8 @@ pub fn requests_are_seen()
 }
 
 /// In a trace a response of the server's has branch, Call-ID, From tag, number and method of the request that it
-/// answers, and in To the request's tag, or where that has none the given one, but for a 100 (RFC 3261 section
-/// 8.2.6.2); the answer to an offer that reads back is its description, and no other response has one.
+/// answers, and in To the request's tag, or where that has none the given one, except for a 100 (RFC 3261 section
+/// 8.2.6.2). The answer to an offer that reads back is its description, and no other response has one.
 pub fn responses_are_seen()
     ensures describes { (bytes : List ℕ) (parts : Parts) (source server : Addr) (status : ℕ) (tag : List ℕ) (description : Description) →
         ReadsDescription (description_text description) description →
@@ -97,8 +97,8 @@ pub fn actions_are_seen()
     trace_reading::bodies_describe();
 }
 
-/// So it is of what a step of a call says, and of what a call says as it begins, where the media that the call keeps
-/// are known; and of a 2xx that no call takes.
+/// The same holds for what a step of a call says, and for what a call says as it begins, where the media that the
+/// call keeps are known; and of a 2xx that no call takes.
 pub fn steps_are_seen()
     ensures step { (ip : List ℕ) (table : transactions.Contents) (o : Occasion) (w : ComingValue) (c : StandingCall) (step : Step) →
         IsServerAddress ip → KnowsStep ip step →

@@ -1,4 +1,4 @@
-//! The texts that the server draws next, and the trace of before.
+//! The texts that the server draws next, and the earlier trace.
 
 ghost use Rattle.std.specs.Prelude.{◌<◌, ◌^◌, ◌≡◌, ◌≢◌, ℕ, IsTrue, List};
 ghost use Rattle.call_trace.specs.declared.datagram.Datagram.{Datagram};

@@ -12,10 +12,10 @@ ghost use Rattle.message_laws.specs.Numbers.{EndLegsIn, EndsLegs, GoInOrder, IsB
 ghost use Rattle.message_laws.specs.Waiting.{KnowsWaiting};
 ghost use Rattle.transactions.specs.declared.transaction.Transaction.{Transaction};
 
-/// Of a new agent, and after any event, of all requests that the server began, also those whose transactions have
-/// ended: the call that the tag of an INVITE or UPDATE names counted its number. So these numbers rise in each leg,
-/// over any events, in the order in which the requests begin, and the requests that begin at an event are sent in it,
-/// in that order; and a BYE in a leg of a live call has a greater one.
+/// For a new agent, and after any event, for all requests that the server began, also those whose transactions have
+/// ended, the following holds. The call that the tag of an INVITE or UPDATE names counted its number. So these
+/// numbers rise in each leg, over any events, in the order in which the requests begin, and the requests that begin
+/// at an event are sent in it, in that order. A BYE in a leg of a live call has a greater number.
 pub fn numbers_rise()
     ensures begins { (config : Config) (s : Contents) → IsNew config s → KnowsNumbers (office s) [] }
     ensures step { (s : Contents) (event : Event) (begun : List Transaction) → KnowsTokens (office s) → KnowsWaiting (office s) →

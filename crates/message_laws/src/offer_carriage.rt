@@ -12,10 +12,10 @@ ghost use Rattle.message_laws.specs.Numbers.{KnowsNumbers, begun_in, begun_of};
 ghost use Rattle.message_laws.specs.Waiting.{KnowsWaiting};
 ghost use Rattle.transactions.specs.declared.transaction.Transaction.{Transaction};
 
-/// Of a new agent, and after any event, of all requests that the server began: where an INVITE or UPDATE is the open
-/// offer of the call that its tag names, and the call has a dialog with the end that was asked or waits for the answer
-/// to its first INVITE, the request's bytes carry the description of the offer that the call keeps as open. So it is
-/// after any events of a new agent.
+/// For a new agent, and after any event, for all requests that the server began, the following holds. Where an INVITE
+/// or UPDATE is the open offer of the call that its tag names, and the call has a dialog with the end that was asked
+/// or waits for the answer to its first INVITE, the request's bytes carry the description of the offer that the call
+/// keeps as open. The same holds after any events of a new agent.
 pub fn open_offers_are_carried()
     ensures begins { (config : Config) (s : Contents) → IsNew config s → KnowsCarried (office s) [] }
     ensures step { (s : Contents) (event : Event) (begun : List Transaction) → KnowsTokens (office s) → KnowsWaiting (office s) →

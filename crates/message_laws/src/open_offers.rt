@@ -17,9 +17,9 @@ use sip_writing::written_is_read;
 use trace_reading::bodies_describe;
 use transactions::replies;
 
-/// Of a new agent, and after any event that keeps the transaction of each open offer live, as each event does: where
-/// a call waits for an answer, that transaction is of an INVITE or UPDATE, with the number that the call keeps. So it
-/// is after any entries of a new agent whose datagrams came from addresses.
+/// For a new agent, and after any event that keeps the transaction of each open offer live, as each event does, the
+/// following holds. Where a call waits for an answer, that transaction is of an INVITE or UPDATE, with the number
+/// that the call keeps. The same holds after any entries of a new agent whose datagrams came from addresses.
 pub fn open_offers_were_asked()
     ensures begins { (config : Config) (s : Contents) → IsNew config s → KnowsAsked (office s) }
     ensures step { (s : Contents) (event : Event) → KnowsAskers (office (after s event)) → KnowsAsked (office s) → KnowsAsked (office (after s event)) }

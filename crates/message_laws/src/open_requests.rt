@@ -19,11 +19,11 @@ ghost use Rattle.transactions.specs.declared.transaction.Transaction.{Transactio
 
 use dialogs::{contacts_are_read, dialogs_are_sound, invites_name_a_contact};
 
-/// Of a new agent, and after any event, of all requests that the server began: where a call waits for a final response
-/// of an end with which it has a dialog, or of the callee to its first INVITE, one of them is its open offer, and its
-/// bytes carry the description of the offer that the call keeps as open. So it is after any events of a new agent, for
-/// each call that waits for an answer; and where the pool serves the calls, each of these keeps an offer, which its
-/// request carries.
+/// For a new agent, and after any event, for all requests that the server began, the following holds. Where a call
+/// waits for a final response of an end with which it has a dialog, or of the callee to its first INVITE, one of them
+/// is its open offer, and its bytes carry the description of the offer that the call keeps as open. The same holds
+/// after any events of a new agent, for each call that waits for an answer. Where the pool serves the calls, each of
+/// these keeps an offer, which its request carries.
 pub fn open_offers_have_requests()
     ensures begins { (config : Config) (s : Contents) → IsNew config s → KnowsRequests (office s) [] }
     ensures step { (s : Contents) (event : Event) (begun : List Transaction) → KnowsTokens (office s) → KnowsWaiting (office s) →

@@ -33,7 +33,7 @@ ghost use Rattle.message_laws.specs.Quiet.{GoesAgain, IsQuietReply, IsQuietStatu
 ghost use Rattle.message_laws.specs.Saying.{IsSeen};
 
 /// What the server answers by itself is plain in a trace, whichever methods may carry an offer: a response without a
-/// body that is no 2xx, or answers neither INVITE nor BYE. A request that was taken is calm.
+/// body that is not a 2xx, or answers neither INVITE nor BYE. A request that was taken is calm.
 pub fn replies_are_plain()
     ensures any { (methods : List (List ℕ)) (bytes : List ℕ) (parts : Parts) (source : Addr) (status : ℕ) (tag : List ℕ) (further : List Header) →
         IsQuietStatus parts status →
@@ -69,8 +69,8 @@ pub fn what_no_call_takes_is_quiet()
 {}
 
 /// Of a request whose line has the method of its CSeq, each reply that the rules give by themselves is quiet: a 200
-/// goes only to OPTIONS, REGISTER and CANCEL. Whatever the reason, a refusal is no 2xx. An UPDATE without an offer is
-/// neither INVITE nor BYE.
+/// goes only to OPTIONS, REGISTER and CANCEL. Whatever the reason, a refusal is not a 2xx. An UPDATE without an offer
+/// is neither INVITE nor BYE.
 pub fn rules_reply_quietly()
     ensures alone { (s : Office) (r : Request) (now : ℕ) (reply : Reply) → r.parts.cseq.method ≡ r.method → request_rule s r now ≡ rules.Alone reply →
         IsQuietReply r reply }

@@ -8,8 +8,8 @@ ghost use Rattle.events.specs.declared.event.Event.{Event};
 ghost use Rattle.events.specs.declared.sent.Sent.{Sent};
 ghost use Rattle.message_laws.specs.Sending.{KnowsSent};
 
-/// Of a new agent, which sent nothing, and after any event: what each transaction would resend, the kept ACKs, and
-/// the 200 that awaits its ACK in each call were sent before in the same bytes.
+/// For a new agent, which sent nothing, and after any event, the following holds. What each transaction would resend,
+/// the kept ACKs, and the 200 that awaits its ACK in each call were sent before in the same bytes.
 pub fn what_goes_again_was_sent()
     ensures begins { (config : Config) (s : Contents) → IsNew config s → KnowsSent (office s) [] }
     ensures step { (s : Contents) (event : Event) (sent : List Sent) →

@@ -25,9 +25,9 @@ use offer_answer::sent_is_read;
 use sip_writing::written_is_read;
 use trace_reading::bodies_describe;
 
-/// Of a new agent, which sent nothing, and at any event, where datagrams come from addresses: each datagram that is
-/// sent is the bytes of a message of the written form: a request, or a response, the 200 to a REGISTER among them. So
-/// it reads back as the message that it was dressed as.
+/// For a new agent, which sent nothing, and at any event, where datagrams come from addresses, the following holds.
+/// Each datagram that is sent is the bytes of a message of the written form: a request, or a response, the 200 to a
+/// REGISTER among them. So it reads back as the message that it was dressed as.
 pub fn sends_are_read()
     ensures begins { All IsReadDatagram [] }
     ensures step { (s : Contents) (event : Event) (sent : List Sent) → ComesFromSource event.what → KnowsDialogs (office s) → KnowsClients (office s) →

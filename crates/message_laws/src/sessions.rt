@@ -10,10 +10,10 @@ ghost use Rattle.events.specs.declared.event.Event.{Event};
 ghost use Rattle.plans.specs.Office.{Office};
 ghost use Rattle.message_laws.specs.Serving.{AreHeldByCalls, AreLed, AreStaged, AreTold, HasNoOtherRow, HeldByTheirCalls, HoldNoOthers, HoldTheirPairs, HoldersStand, KnowsServing};
 
-/// Of a new agent, whose configuration keeps the rules, and after any event: the pool serves each live call, in the
-/// server's range; the relay table leads each port that its session names as the session asks; only a live call holds
-/// a port, and it holds no pair but those of its session while no offer is open in it. So it is after any events of a
-/// new agent.
+/// For a new agent, whose configuration keeps the rules, and after any event, the following holds. The pool serves
+/// each live call, in the server's range. The relay table leads each port that its session names as the session asks.
+/// Only a live call holds a port, and it holds no pair but those of its session while no offer is open in it. The
+/// same holds after any events of a new agent.
 pub fn calls_are_served()
     ensures begins { (config : Config) (s : Contents) → KeepsRules config → IsNew config s → KnowsServing (office s) }
     ensures step { (s : Contents) (event : Event) → KnowsServing (office s) → KnowsServing (office (after s event)) }
@@ -25,9 +25,9 @@ pub fn calls_are_served()
 }
 
 /// Where the calls are served so, each call whose stage has a session has one, and no other call does. What each end
-/// was sent matches what the other said, with places at the server; the table leads the ports that it names as it
-/// asks, and has no other row, so none outlives its call; its call holds the pairs that it names, and no other one
-/// while no offer is open; and only a live call holds a pair.
+/// was sent matches what the other said, with places at the server. The table leads the ports that it names as it
+/// asks, and has no other row, so none outlives its call. Its call holds the pairs that it names, and no other one
+/// while no offer is open. Only a live call holds a pair.
 pub fn served_as_told()
     ensures staged { (s : Office) → KnowsServing s → AreStaged s }
     ensures told { (s : Office) → KnowsServing s → AreTold s }

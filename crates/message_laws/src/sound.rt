@@ -24,10 +24,11 @@ ghost use Rattle.sip_uri.specs.declared.uri.Uri.{Uri};
 
 use dialogs::{contacts_are_read, dialogs_are_sound};
 
-/// Of a new agent, and after any event: the texts of each dialog of a call came out of messages that were read, or are
-/// tokens that were made; its target, and where the sender of an open offer says that it is reached, lead to addresses,
-/// and so does each contact that a user is bound to; and each request of the server's own whose transaction is live
-/// says what a dialog is made of. The new leg of a first INVITE to a user who is bound is sound too.
+/// For a new agent, and after any event, the following holds. The texts of each dialog of a call came out of messages
+/// that were read, or are tokens that were made. Its target, and where the sender of an open offer says that it is
+/// reached, lead to addresses, and so does each contact that a user is bound to. Each request of the server's own
+/// whose transaction is live says what a dialog is made of. The new leg of a first INVITE to a user who is bound is
+/// sound too.
 pub fn dialogs_are_kept_sound()
     ensures begins { (config : Config) (s : Contents) → IsNew config s → HasOctets config.ip → KnowsDialogs (office s) }
     ensures step { (s : Contents) (event : Event) → KnowsDialogs (office s) → KnowsDialogs (office (after s event)) }

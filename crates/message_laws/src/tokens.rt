@@ -13,9 +13,9 @@ pub fn tokens_of_other_counts_differ()
     ensures differ { (salt other count next : ℕ) → count < 2 ^ 64 → next < 2 ^ 64 → token salt count ≡ token other next → count ≡ next }
 {}
 
-/// Of a new agent, and after any event: branch and From tag of each request of the server's own whose transaction
-/// is live, and the server's tags in the two dialogs of each call, are tokens that were made, whatever the salts; and
-/// no tag is of two dialogs.
+/// For a new agent, and after any event, the following holds. The branch and From tag of each request of the server's
+/// own whose transaction is live, and the server's tags in the two dialogs of each call, are tokens that were made,
+/// whatever the salts. No tag is of two dialogs.
 pub fn tokens_are_drawn_once()
     ensures begins { (config : Config) (s : Contents) → IsNew config s → KnowsTokens (office s) }
     ensures step { (s : Contents) (event : Event) → KnowsTokens (office s) → KnowsTokens (office (after s event)) }

@@ -10,7 +10,7 @@ ghost use Rattle.message_laws.specs.Serving.{KnowsServing, trace_table};
 ghost use Rattle.message_laws.specs.Traced.{AreTraced, holder_by};
 
 /// Where the agent's calls are served, and a trace lists calls of the same sessions, those are served as the media
-/// promise asks of a server beside its moves: each end was sent what matches, the table is of their sessions, and
+/// promise asks of a server besides its moves: each end was sent what matches, the table is of their sessions, and
 /// their pairs are held by their callers' dialogs.
 pub fn traced_calls_are_served()
     ensures { (caller : StandingCall → Dialog) (s : Office) (calls : List Call) → KnowsServing s → AreTraced caller s.calls.calls calls →

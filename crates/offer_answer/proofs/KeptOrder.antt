@@ -19,7 +19,7 @@ lines ls = map line_text ls
 kept_first : (l : Line) (ls : List Line) → is_kept l ≡ true → kept_lines (l ∷ ls) ≡ l ∷ kept_lines ls
 kept_first l ls e = ap (λ (b : Bool). cond b (l ∷ kept_lines ls) (kept_lines ls)) e
 
--- a line of a type that is no attribute is kept
+-- a line of a type that is not an attribute is kept
 stays : (set : List ℕ) → is_one_of set 97 ≡ false → (l : Line) → begins set (line_text l) ≡ true → is_kept l ≡ true
 stays set out l h = step (is_kept l) refl where
   step : (b : Bool) → is_kept l ≡ b → is_kept l ≡ true

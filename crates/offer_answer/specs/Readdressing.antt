@@ -14,7 +14,7 @@ use Rattle.offer_answer.specs.Alike.{kept_lines}
 unfoldable pub origin_of : ServerOrigin → Origin
 origin_of o = record { username = codes "-"; id = decimal o.id; version = decimal o.version; network_type = codes "IN"; address_type = codes "IP4"; address = ip4_text o.ip }
 
--- the server's address, but for 0.0.0.0
+-- the server's address, except for 0.0.0.0
 abbrev pub readdressed_address : List ℕ → Address → Address
 readdressed_address ip a = if is_hold a then Ip4 hold_address else Ip4 ip
 

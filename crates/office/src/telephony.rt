@@ -1,4 +1,4 @@
-//! An office on sockets: the signalling here, and the workers of the media beside it.
+//! An office on sockets: the signalling here, and the media workers alongside it.
 
 ghost use Rattle.std.specs.Prelude.{IfOk};
 ghost use Rattle.live.specs.Turns.{HasTable};
@@ -203,7 +203,7 @@ fn serve_calls<R: Threads + Wait + Sync, A: Announcer, W: Wire, M: Moments, O: O
     )
 }
 
-/// The page's thread beside all of these.
+/// The page's thread, alongside all of these.
 fn serve_beside_page<R: Threads + Wait + Sync, A: Announcer, W: Wire, M: Moments, O: Operator>(
     rt: &R,
     announcer: &A,

@@ -1,1 +1,3 @@
+pub mod ArrivalLaws
+pub mod LeavingLaws
 pub mod RoomLaws

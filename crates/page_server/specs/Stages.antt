@@ -15,7 +15,14 @@ patience_of (Waiting path) = 5000
 patience_of (Writing answer) = 5000
 patience_of Closing = 1000
 
--- the refusal for a client whose time is up, unless it has its response or a part of it
+-- how many stages a connection passed before this one, or left out
+abbrev pub passed_of : Stage → ℕ
+passed_of (Reading request) = 0
+passed_of (Waiting path) = 1
+passed_of (Writing answer) = 2
+passed_of Closing = 3
+
+-- the response to a client whose time is up, unless it has its response or a part of it
 abbrev pub refusal_of : Stage → Option Refusal
 refusal_of (Reading request) = Some RequestTimeout
 refusal_of (Waiting path) = Some ServiceUnavailable

@@ -46,7 +46,7 @@ impl Answer {
         Ok(Answer { text, sent: 0 })
     }
 
-    /// What was not sent.
+    /// The part that was not sent yet.
     pub(crate) fn rest(&self) -> &[u8]
         ensures { result.now ≡ drop self.now.sent self.now.text }
     {

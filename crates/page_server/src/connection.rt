@@ -1,11 +1,13 @@
 //! A connection.
 
 ghost use Rattle.std.specs.Prelude.{◌≡◌, IfSome};
-ghost use Rattle.page_server.specs.Connections.{IsWithinTime, held_of};
-ghost use Rattle.page_server.specs.Held.{IsTimely};
+ghost use Rattle.page_server.specs.Connections.{IsWithinTime, held_at, held_of};
+ghost use Rattle.page_server.specs.Held.{GoesOn, IsBrief, IsTimely, accepted_at};
+ghost use Rattle.page_server.specs.declared.stages.Stage.TheVariants as stages;
 
 use crate::flow::{read_away, read_request, write_answer};
 use crate::head::Head;
+use crate::moments::{Moments, new_moments};
 use crate::request::Request;
 use crate::source::PageSource;
 use crate::stages::{Stage, answered, is_due, refusal_of, refused, stage_behind};
@@ -13,23 +15,23 @@ use mio::net::TcpStream;
 use std::alloc::Global;
 use std::net::Shutdown;
 
-/// A connection, and since when it has been at its stage, in milliseconds.
+/// A connection, its moments, and its stage.
 #[derive(Drop)]
 pub(crate) struct Connection {
     pub(crate) stream: TcpStream,
-    pub(crate) since: u64,
+    pub(crate) moments: Moments,
     pub(crate) stage: Stage,
 }
 
 /// A connection that was made at this moment. Takes no memory.
 pub(crate) fn new_connection(alloc: Global, stream: TcpStream, now: u64) -> Connection
-    ensures { IsTimely now (held_of result) }
+    ensures timely { IsTimely now (held_of result) }
+    ensures accepted { held_of result ≡ accepted_at now }
 {
-    let stage = Stage::Reading(Request::new(alloc));
     Connection {
         stream,
-        since: now,
-        stage,
+        moments: new_moments(now),
+        stage: Stage::Reading(Request::new(alloc)),
     }
 }
 
@@ -44,23 +46,26 @@ fn read_head<S: PageSource>(
     source: &mut S,
     mut stream: TcpStream,
     mut request: Request,
-    (since, now): (u64, u64),
-) -> Option<Connection> {
+    moments: Moments,
+    now: u64,
+) -> Option<Connection>
+    ensures { IfSome result (λ c. GoesOn now (held_at moments (stages.Reading request)) (held_of c)) }
+{
     let may_come = read_request(&mut stream, &mut request).ok()?;
     let head = request.head();
-    let since = match head {
-        Head::Incomplete if may_come => since,
+    let moments = match head {
+        Head::Incomplete if may_come => moments,
         Head::Incomplete => return None,
         Head::Asked(_) => {
             source.ask();
-            now
+            moments.begin(now)
         }
-        Head::Refused(_) => now,
+        Head::Refused(_) => moments.begin(now),
     };
     let stage = stage_behind(alloc, head, request).ok()?;
     Some(Connection {
         stream,
-        since,
+        moments,
         stage,
     })
 }
@@ -71,48 +76,56 @@ fn read<S: PageSource>(
     source: &mut S,
     connection: Connection,
     now: u64,
-) -> Option<Connection> {
+) -> Option<Connection>
+    ensures { IfSome result (λ c. GoesOn now (held_of connection) (held_of c)) }
+{
     let Connection {
         mut stream,
-        since,
+        moments,
         stage,
     } = connection;
     match stage {
-        Stage::Reading(request) => read_head(alloc, source, stream, request, (since, now)),
+        Stage::Reading(request) => read_head(alloc, source, stream, request, moments, now),
         Stage::Closing if !read_away(&mut stream) => None,
         // A client may end its side and wait for the response.
         Stage::Waiting(_) | Stage::Writing(_) | Stage::Closing => {
             read_away(&mut stream);
             Some(Connection {
                 stream,
-                since,
+                moments,
                 stage,
             })
         }
     }
 }
 
-/// A connection whose time is up is refused, or ended if it has its response or a part of it.
+/// A connection whose time is up is refused, or over if it has its response or a part of it. One that has lasted for
+/// its whole time is over.
 fn within_time(alloc: Global, connection: Connection, now: u64) -> Option<Connection>
     ensures timely { IfSome result (λ c. IsTimely now (held_of c)) }
+    ensures brief { IfSome result (λ c. IsBrief now (held_of c)) }
     ensures told { IfSome result (λ c. IsWithinTime now connection c) }
+    ensures kept { IfSome result (λ c. GoesOn now (held_of connection) (held_of c)) }
 {
     let Connection {
         stream,
-        since,
+        moments,
         stage,
     } = connection;
-    if !is_due(&stage, since, now) {
+    if moments.is_over(now) {
+        return None;
+    }
+    if !is_due(&stage, moments.since, now) {
         return Some(Connection {
             stream,
-            since,
+            moments,
             stage,
         });
     }
     let stage = refused(alloc, refusal_of(&stage)?).ok()?;
     Some(Connection {
         stream,
-        since: now,
+        moments: moments.begin(now),
         stage,
     })
 }
@@ -125,11 +138,12 @@ fn answer<S: PageSource>(
     now: u64,
 ) -> Option<Connection>
     requires { IsTimely now (held_of connection) }
-    ensures { IfSome result (λ c. IsTimely now (held_of c)) }
+    ensures timely { IfSome result (λ c. IsTimely now (held_of c)) }
+    ensures kept { IfSome result (λ c. GoesOn now (held_of connection) (held_of c)) }
 {
     let Connection {
         stream,
-        since,
+        moments,
         stage,
     } = connection;
     match stage {
@@ -137,13 +151,13 @@ fn answer<S: PageSource>(
             let stage = answered(alloc, source, path).ok()?;
             Some(Connection {
                 stream,
-                since: now,
+                moments: moments.begin(now),
                 stage,
             })
         }
         stage => Some(Connection {
             stream,
-            since,
+            moments,
             stage,
         }),
     }
@@ -152,11 +166,12 @@ fn answer<S: PageSource>(
 /// Sends what the client takes now. None if it takes no more before it has everything.
 fn write(connection: Connection, now: u64) -> Option<Connection>
     requires { IsTimely now (held_of connection) }
-    ensures { IfSome result (λ c. IsTimely now (held_of c)) }
+    ensures timely { IfSome result (λ c. IsTimely now (held_of c)) }
+    ensures kept { IfSome result (λ c. GoesOn now (held_of connection) (held_of c)) }
 {
     let Connection {
         mut stream,
-        since,
+        moments,
         stage,
     } = connection;
     match stage {
@@ -167,34 +182,36 @@ fn write(connection: Connection, now: u64) -> Option<Connection>
             if !answer.is_sent() {
                 return Some(Connection {
                     stream,
-                    since,
+                    moments,
                     stage: Stage::Writing(answer),
                 });
             }
             stream.shutdown(Shutdown::Write).ok()?;
             Some(Connection {
                 stream,
-                since: now,
+                moments: moments.begin(now),
                 stage: Stage::Closing,
             })
         }
         stage => Some(Connection {
             stream,
-            since,
+            moments,
             stage,
         }),
     }
 }
 
-/// Does what can be done at a connection now. None if it is over. Otherwise it has been at its stage for less than
-/// its limit.
+/// Does what can be done at a connection now. None if it is over. Otherwise it has been at its stage, and has lasted,
+/// for less than its limits.
 pub(crate) fn turn<S: PageSource>(
     alloc: Global,
     source: &mut S,
     connection: Connection,
     now: u64,
 ) -> Option<Connection>
-    ensures { IfSome result (λ c. IsTimely now (held_of c)) }
+    ensures timely { IfSome result (λ c. IsTimely now (held_of c)) }
+    ensures brief { IfSome result (λ c. IsBrief now (held_of c)) }
+    ensures kept { IfSome result (λ c. GoesOn now (held_of connection) (held_of c)) }
 {
     let read = read(alloc, source, connection, now)?;
     let timely = within_time(alloc, read, now)?;

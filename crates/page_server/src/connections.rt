@@ -1,8 +1,8 @@
 //! All connections.
 
-ghost use Rattle.std.specs.Prelude.{◌≡◌, ◌+◌, ◌<◌, ◌≤◌, ◌++◌, ◌∷◌, [], ℕ, length, nat_le, All, OnOk, OnErr};
-ghost use Rattle.page_server.specs.Connections.{IsTimelyNow, held_of};
-ghost use Rattle.page_server.specs.Held.{IsTimely, max_connections};
+ghost use Rattle.std.specs.Prelude.{◌≡◌, ◌+◌, ◌<◌, ◌≤◌, ◌++◌, ◌∷◌, [], ℕ, length, nat_le, All, OnOk, OnErr, map};
+ghost use Rattle.page_server.specs.Connections.{IsBriefNow, IsTimelyNow, held_of};
+ghost use Rattle.page_server.specs.Held.{AreLeft, IsBrief, IsTimely, max_connections};
 
 use crate::connection::{Connection, is_waiting, turn};
 use crate::source::PageSource;
@@ -37,6 +37,8 @@ fn keep(kept: &mut Vec<Connection>, connection: Connection) -> Result<(), AllocE
     ensures err { OnErr result (kept.new.items ≡ kept.old.items) }
     ensures timely { (now : ℕ) → All (IsTimelyNow now) kept.old.items → IsTimelyNow now connection
         → All (IsTimelyNow now) kept.new.items }
+    ensures brief { (now : ℕ) → All (IsBriefNow now) kept.old.items → IsBriefNow now connection
+        → All (IsBriefNow now) kept.new.items }
     ensures most { length kept.new.items ≤ length kept.old.items + 1 }
 {
     match kept.push(connection) {
@@ -56,6 +58,8 @@ fn turn_all<S: PageSource>(
     now: u64,
 ) -> Vec<Connection>
     ensures timely { All (IsTimelyNow now) result.items }
+    ensures brief { All (IsBriefNow now) result.items }
+    ensures kept { AreLeft now (map held_of before.items) (map held_of result.items) }
     ensures fewer { length result.items ≤ length before.items }
 {
     let mut kept = Vec::new(alloc);
@@ -98,9 +102,12 @@ impl Connections {
         keep(&mut self.all, connection)
     }
 
-    /// Does what can be done at each now. Those that are left have been at their stages for less than their limits.
+    /// Does what can be done at each now. Those that are left have been at their stages, and have lasted, for less than
+    /// their limits.
     pub(crate) fn turn<S: PageSource>(&mut self, alloc: Global, source: &mut S, now: u64)
         ensures timely { All (IsTimely now) self.new }
+        ensures brief { All (IsBrief now) self.new }
+        ensures kept { AreLeft now self.old self.new }
         ensures fewer { length self.new ≤ length self.old }
         ensures few { length self.new ≤ max_connections }
     {

@@ -8,6 +8,7 @@ mod connection;
 mod connections;
 mod flow;
 mod head;
+mod moments;
 mod path;
 mod refusal;
 mod request;

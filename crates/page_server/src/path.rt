@@ -38,7 +38,7 @@ pub(crate) fn path_of(target: &[u8]) -> Option<Path>
     path_named(cut(target, b'?').0)
 }
 
-/// The line of Content-Type.
+/// The Content-Type line.
 #[tactic(auto, unfolding(crate::specs::Responses::kind_of_page))]
 pub(crate) fn kind_of_page(path: Path) -> &'static [u8]
     ensures { result.now ≡ kind_of_page path }

@@ -42,7 +42,7 @@ pub(crate) fn allow_of(refusal: Refusal) -> &'static [u8]
     }
 }
 
-/// The line of Content-Type of a response without a page.
+/// The Content-Type line of a response without a page.
 #[tactic(auto, unfolding(crate::specs::Responses::kind_of_refusals))]
 pub(crate) fn kind_of_refusals() -> &'static [u8]
     ensures { result.now ≡ kind_of_refusals }

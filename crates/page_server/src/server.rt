@@ -1,7 +1,7 @@
 //! The server.
 
 ghost use Rattle.std.specs.Prelude.{◌≡◌, ◌≤◌, [], length, All, IfOk, OnOk, OnErr};
-ghost use Rattle.page_server.specs.Held.{IsTimely, max_connections};
+ghost use Rattle.page_server.specs.Held.{IsBrief, IsTimely, Join, OneMayJoin, TurnsTo, max_connections};
 
 use crate::connection::new_connection;
 use crate::connections::Connections;
@@ -28,8 +28,8 @@ const LISTENER: Token = Token(0);
 
 const CLIENT: Token = Token(1);
 
-/// A server of pages. Contracts see what it holds: each connection, with since when it has been at its stage, and how
-/// long it may stay there.
+/// A server of pages. Contracts see what it holds: each connection, with the moment of its accept, since when it has
+/// been at its stage, how many it passed before, and how long it may stay there.
 #[derive(Drop)]
 pub struct PageServer {
     alloc: Global,
@@ -56,13 +56,9 @@ fn to_system(addr: Addr) -> SocketAddr {
 }
 
 /// Adds a connection, if there is room for it.
-fn admit(
-    alloc: Global,
-    poll: &Poll,
-    connections: &mut Connections,
-    mut stream: TcpStream,
-    now: u64,
-) {
+fn admit(alloc: Global, poll: &Poll, connections: &mut Connections, mut stream: TcpStream, now: u64)
+    ensures { OneMayJoin now connections.old connections.new }
+{
     if connections.are_full() {
         return;
     }
@@ -72,14 +68,17 @@ fn admit(
     }
 }
 
-/// Accepts the waiting connections. Those for which there is no room are dropped at once.
+/// Accepts the waiting connections. Those for which there is no room are closed at once.
+#[tactic(auto, using(crate::proofs::ArrivalLaws::none_yet))]
 fn accept(
     alloc: Global,
     listener: &TcpListener,
     poll: &Poll,
     connections: &mut Connections,
     now: u64,
-) {
+)
+    ensures { Join now connections.old connections.new }
+{
     for _ in 0..MAX_ARRIVALS {
         let Ok((stream, _)) = listener.accept() else {
             return;
@@ -108,7 +107,8 @@ impl PageServer {
 
     /// Waits until something can be done, at most `wait_millis` milliseconds, and does it at each connection. `now`
     /// is in milliseconds, and at most a turn old. Err is the system's refusal to wait: nothing was done then. If
-    /// memory is refused, the connection that needed it is dropped.
+    /// memory is refused, the connection that needed it is dropped. Nobody gets more time: a connection keeps the
+    /// moment of its accept, and the moment at which it reached its stage.
     pub fn turn<S: PageSource>(
         &mut self,
         source: &mut S,
@@ -116,6 +116,8 @@ impl PageServer {
         wait_millis: u64,
     ) -> io::Result<()>
         ensures timely { OnOk result (All (IsTimely now) self.new) }
+        ensures brief { OnOk result (All (IsBrief now) self.new) }
+        ensures kept { OnOk result (TurnsTo now self.old self.new) }
         ensures few { length self.new ≤ max_connections }
         ensures err { OnErr result (self.new ≡ self.old) }
     {

@@ -120,7 +120,7 @@ takes_request s e r begun id place input leg tag =
 
 -- ---- a first INVITE
 
--- as many calls stand as may (the server's own)
+-- the most live calls (the server's own)
 abbrev pub max_calls : ℕ
 max_calls = 256
 
@@ -141,7 +141,8 @@ unless_full s e r begun id step =
     if are_full s then refuses_first s e r begun id reasons.TooManyCalls
     else with_step s.acks begun None None step
 
--- the relay doesn't carry the offer (RFC 3264 section 6), too few pairs are free, or as many calls are live as may be
+-- the relay doesn't carry the offer (RFC 3264 section 6), too few pairs are free, or the limit of live calls is
+-- reached
 abbrev pub first_by : Office → Setting → Request → List Entry → ℕ → Uri → Description → Effect
 first_by s e r begun id target offer =
     if is_some (offer_fault s.range offer None) then refuses_first s e r begun id reasons.UnfitOffer

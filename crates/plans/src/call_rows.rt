@@ -32,7 +32,7 @@ use sip_uri::Uri;
 use std::alloc::AllocError;
 use transactions::Change;
 
-/// As many calls are live as may be.
+/// The most live calls.
 const MAX_CALLS: usize = 256;
 
 /// The server's tag in the responses to the call's offer.
@@ -164,7 +164,7 @@ impl<'o> Office<'o> {
         self.calls.as_slice().len() >= MAX_CALLS
     }
 
-    /// The call that was planned begins, unless as many are live as may be.
+    /// The call that was planned begins, unless the limit of live calls is reached.
     fn begins_unless_full(
         &self,
         setting: Setting,

@@ -69,7 +69,7 @@ pub enum Reason {
     /// Too few pairs of ports are free (K4).
     #[error("no ports")]
     NoPorts,
-    /// As many calls are live as may be.
+    /// The limit of live calls is reached.
     #[error("too many calls")]
     TooManyCalls,
     /// An offer of the other end is open (K1, section 14.2).

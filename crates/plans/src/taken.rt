@@ -5,7 +5,7 @@ use sip_message::MessageError;
 /// Why an event was dropped: nothing is sent for it.
 #[derive(Clone, Copy)]
 pub enum Why {
-    /// The datagram can't be read, and is no request that can be answered. Its first fault.
+    /// The datagram can't be read, and is not a request that can be answered. Its first fault.
     Unread(MessageError),
     /// A response that belongs to no request of the server's.
     Stray,

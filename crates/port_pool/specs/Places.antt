@@ -21,7 +21,7 @@ no_holding = record { even = 0; holder = None; freed = None }
 abbrev pub is_unheld : Holding → Bool
 is_unheld holding = is_none holding.holder
 
--- the places of the pairs that a call holds, the least first, where the first place has the number n
+-- the places of the pairs that a call holds, the least first, if the first place has the number n
 abbrev pub places_of : ℕ → ℕ → List Holding → List ℕ
 places_of call n holdings = numbers_from (holds call) n holdings
 

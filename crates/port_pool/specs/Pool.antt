@@ -16,7 +16,7 @@ use Rattle.port_pool.specs.Changes.{port_of, changes_between}
 use Rattle.port_pool.specs.Holdings.{unheld_pairs, is_call, is_among, even_of, holds, free_pairs, holder_of, holder_at, taken, released, dropped, others_freed, PairsFrom}
 
 -- The pairs by rising port, each with the call that holds it, if any, and the moment at which it was last freed; and
--- the relay table beside them.
+-- also the relay table.
 pub record Contents : Type 0 where
   pub holdings : List Holding
   pub rows : Rows

@@ -164,7 +164,7 @@ fn count_below(holdings: &[Holding], port: u16) -> usize
     holdings.partition_point(|holding| holding.even < port)
 }
 
-/// The place of the pair with this even port, found by halving.
+/// The place of the pair with this even port, found by binary search.
 pub(crate) fn place_of(holdings: &[Holding], even: u16) -> Option<usize>
     requires { PairsRise holdings.now }
     ensures { result ≡ position (has_even even) holdings.now }

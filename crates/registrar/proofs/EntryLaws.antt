@@ -87,7 +87,7 @@ none-without_bindings (u ∷ us) user =
       | false ↦ none-without_bindings us user
     ]
 
--- ---- who is no user
+-- ---- one who is not a user
 
 pub none_changed : (entries : List UserBindings) (user : List ℕ) (bs : List Binding) → list_any (is_for user) entries ≡ false → entries_with user bs entries ≡ entries
 none_changed [] user bs none = refl

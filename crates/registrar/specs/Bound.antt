@@ -37,7 +37,7 @@ abbrev pub registers : Rules → List ℕ → List Binding → Registration → 
 registers rules user bindings r =
     if names r.register.user user && is_known rules user then or_as_before bindings (bindings_after_one rules r.register r.now bindings) else bindings
 
--- who is no user any more loses all bindings
+-- one who is no longer a user loses all bindings
 abbrev pub step : Rules → List ℕ → List Binding → Event → List Binding
 step rules user bindings (Registered r) = registers rules user bindings r
 step rules user bindings (Listed users) = if is_known (with_users rules users) user then bindings else []
@@ -98,7 +98,7 @@ QueryKeepsTarget = (rules : Rules) (history : List Event) (register : Register) 
     → register.user ≡ Some user → register.contacts ≡ [] → register.star ≡ false
     → answer_after rules history register now ≡ Ok after → target_of after ≡ target_of (bound rules user history now)
 
--- who is not on the last list is bound to nothing
+-- one who is not on the last list is bound to nothing
 abbrev pub GoneIsUnbound : Type 0
 GoneIsUnbound = (rules : Rules) (history : List Event) (users : List (List ℕ)) (user : List ℕ) (now : ℕ) → is_known (with_users rules users) user ≡ false
     → bound rules user (history ++ Listed users ∷ []) now ≡ []

@@ -17,7 +17,7 @@ kept_entries entries users = map (kept_entry entries) users
 abbrev pub with_entries : Contents → List UserBindings → Contents
 with_entries r entries = record { entries = entries; ip = r.ip; sip_port = r.sip_port; domain = r.domain; binding_rules = r.binding_rules }
 
--- the registrar once these are the users: who was one keeps its bindings
+-- the registrar once these are the users: one who was one keeps its bindings
 abbrev pub listed : Contents → List (List ℕ) → Contents
 listed r users = with_entries r (kept_entries r.entries users)
 

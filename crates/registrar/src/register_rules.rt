@@ -29,7 +29,7 @@ fn is_older_than_any(register: &Register<'_>, bindings: &[Binding], now: u64) ->
         .any(|b| b.is_present(now) && is_older_than(register, b))
 }
 
-/// Whether a star would remove a binding than which the REGISTER is no newer.
+/// Whether a star would remove a binding, and the REGISTER is no newer than it.
 pub(crate) fn is_star_stale(register: &Register<'_>, bindings: &[Binding], now: u64) -> bool
     ensures { result ≡ is_star_stale register.now (present now bindings.now) }
 {

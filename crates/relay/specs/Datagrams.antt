@@ -21,7 +21,7 @@ pub record Forwarded : Type 0 where
   pub to : Addr
   pub bytes : List ℕ
 
--- the datagram goes on by the hop, unchanged
+-- the datagram is forwarded by the hop, unchanged
 abbrev pub forwarded : Taken → Hop → Forwarded
 forwarded d hop = record { from = hop.from; to = hop.to; bytes = d.bytes }
 

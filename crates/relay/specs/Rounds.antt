@@ -22,7 +22,8 @@ pub record Media : Type 0 where
 abbrev pub SendsNothing : Media → Media → Type 0
 SendsNothing a b = (b.sent ≡ a.sent) × (b.counted ≡ a.counted)
 
--- nothing is sent, or what is taken goes on once, by a row of the table that is seen then, and is counted at its port
+-- nothing is sent, or what is taken is forwarded once, by a row of the table that is seen then, and is counted at its
+-- port
 abbrev pub SendsByRow : Media → Media → Type 0
 SendsByRow a b =
     SendsNothing a b
@@ -33,7 +34,7 @@ abbrev pub Leads : Media → Media → Bool → Type 0
 Leads a b true = StartsWith b.lists a.lists × SendsByRow a b × (TakesOne a.taken b.taken ⊎ (b.failed ≡ false))
 Leads a b false = StartsWith b.lists a.lists × (b.taken ≡ a.taken) × SendsNothing a b × (b.failed ≡ true)
 
--- ---- rounds, the last of them first, each by whether it succeeded
+-- ---- rounds, the last of them first, each given by whether it succeeded
 
 abbrev pub Made : Media → List Bool → Media → Type 0
 Made a [] b = b ≡ a

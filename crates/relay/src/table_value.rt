@@ -14,7 +14,7 @@ use std::snapshot::Snapshot;
 pub struct Published {
     pub table: RelayTable,
     pub count: u64,
-    /// The list that was taken in last. Only clauses read it.
+    /// The list that was applied last. Only clauses read it.
     pub last: Snapshot<Changes>,
 }
 

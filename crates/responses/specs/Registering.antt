@@ -15,7 +15,7 @@ use Rattle.registrar.specs.declared.register.Contact.{Contact}
 use Rattle.registrar.specs.declared.register.Register.{Register}
 use Rattle.registrar.specs.Registering.{Rules, user_of}
 
--- the seconds of a text that is no number below 2^32
+-- the seconds of a text that is not a number below 2^32
 abbrev pub unreadable_seconds : ℕ
 unreadable_seconds = 3600
 

@@ -32,7 +32,7 @@ is_declined_method r =
     is_method (codes "PRACK") r || is_method (codes "REFER") r || is_method (codes "SUBSCRIBE") r || is_method (codes "NOTIFY") r
     || is_method (codes "INFO") r || is_method (codes "MESSAGE") r || is_method (codes "PUBLISH") r
 
--- methods that are offered, but for ACK and CANCEL
+-- methods that are offered, except for ACK and CANCEL
 abbrev pub is_offered_method : Request → Bool
 is_offered_method r =
     is_method (codes "INVITE") r || is_method (codes "BYE") r || is_method (codes "REGISTER") r || is_method (codes "OPTIONS") r

@@ -34,11 +34,12 @@ ending_help_of Done = None
 ending_help_of (Refused error) = command_help_of error
 ending_help_of (Broken fault) = None
 
--- the bytes of the file of a path, where they are known
+-- the bytes of the file at a path, if they are known
 abbrev pub Files : Type 0
 Files = List ℕ → Option (List ℕ)
 
--- what became of the bytes that the reader had left and the writer held, and what the host was asked, where it was done
+-- what became of the bytes that the reader had left and the writer held, and of what the host was asked, if the
+-- request was completed
 abbrev pub Does : Files → Asked → Option (List ℕ) → Option (List ℕ) → Option (List ℕ) → Option (List ℕ) → Request → Request → Type 0
 Does files Once left left_after held held_after host host_after = Answers left left_after held held_after × (host_after ≡ host)
 Does files (Replay config script notes) left left_after held held_after host host_after =
@@ -48,7 +49,7 @@ Does files (Follow config notes) left left_after held held_after host host_after
 Does files (Serve config turns) left left_after held held_after host host_after =
     Keeps left left_after × Keeps held held_after × Serves (files config.now) turns host_after
 
--- and where a fault ended it
+-- and if a fault ended it
 abbrev pub Breaks : Files → Asked → Fault → Option (List ℕ) → Option (List ℕ) → Option (List ℕ) → Request → Request → Type 0
 Breaks files Once fault left held held_after host host_after = Leaves fault held held_after × (host_after ≡ host)
 Breaks files (Replay config script notes) fault left held held_after host host_after =

@@ -272,7 +272,7 @@ fn put_entry_note(
     }
 }
 
-/// The ledger knows whether a call is held, as its last offer and answer say.
+/// Updates whether a call is held, as its last offer and answer say.
 fn keep_hold(ledger: &mut Ledger, calls: &[StandingCall], number: u64) {
     if let Some(standing) = call_of(calls, number)
         && let Some(session) = standing.call.session()

@@ -18,7 +18,7 @@ use crate::words::{Asked, command};
 use std::alloc::Global;
 use std::io::{Read, Write};
 
-/// The file of a path, where there is one.
+/// The file at a path, if there is one.
 fn file_of<F: Shelf>(shelf: &F, path: Option<&str>) -> Option<F::File>
     ensures { option_map (λ f. F.File.remaining f) result ≡ option_map (λ p. F.contents shelf.now p.now) path.entry }
 {

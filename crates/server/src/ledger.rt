@@ -50,7 +50,7 @@ fn user_text(alloc: Global, user: Option<&Text<'static>>) -> Result<Text<'static
     }
 }
 
-/// A call that begins.
+/// The entry of a call that begins.
 fn entry_of(alloc: Global, call: &StandingCall, now: u64) -> Result<Option<Entry>, AllocError> {
     let Some(dialog) = call.call.dialog(End::Caller) else {
         return Ok(None);

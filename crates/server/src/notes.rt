@@ -32,7 +32,7 @@ fn with_place(alloc: Global, front: &[u8], place: Option<Addr>) -> Result<Vec<u8
     Ok(text)
 }
 
-/// A text up to a place, and from there on.
+/// A text split at a place.
 fn parted(text: &[u8], at: usize) -> (&[u8], &[u8]) {
     let at = at.min(text.len());
     (&text[..at], &text[at..])

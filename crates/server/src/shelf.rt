@@ -6,13 +6,13 @@ use std::io::Read;
 
 /// Where the paths of a command line lead.
 pub trait Shelf {
-    /// A file that was opened.
+    /// An open file.
     type File: Read + Drop;
 
-    /// The bytes of the file of a path, where they are known.
+    /// The bytes of the file at a path, if they are known.
     ghost contents: { Self → List ℕ → Option (List ℕ) };
 
-    /// Opens the file of a path. If it can't be opened, each read of it fails.
+    /// Opens the file at a path. If it can't be opened, each read of it fails.
     fn open(&self, path: &str) -> Self::File
         ensures { Self.File.remaining result ≡ contents self.now path.now };
 }

@@ -5,7 +5,7 @@ ghost use Rattle.server.specs.Turns.{turns_of};
 
 use scripts::number_of;
 
-/// A number from 1, in decimal digits alone.
+/// A number from 1, in decimal digits only.
 pub(crate) fn turns_of(text: &[u8]) -> Option<u64>
     ensures { result ≡ turns_of text.now }
 {

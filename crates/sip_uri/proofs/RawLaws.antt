@@ -36,7 +36,7 @@ raw_text-raw_of t =
 
 -- ---- the parts of the text
 
--- a part of its form
+-- a well-formed part
 part_all : (p : ℕ → Bool) (t : List ℕ) → is_run_of p t ≡ true → list_all p t ≡ true
 part_all p t h = (and_parts (not (eqb (length t) 0)) (list_all p t) h).1
 

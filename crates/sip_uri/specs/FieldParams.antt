@@ -38,7 +38,7 @@ is_field_params text = list_all is_field_param (pieces 59 Nothing text)
 abbrev pub field_param_of : List ℕ → Param
 field_param_of piece = record { name = trimmed (before 61 piece); value = option_map trimmed (after 61 piece) }
 
--- the parameter that a piece of its form is
+-- the parameter in a well-formed piece
 unfoldable pub field_param_read : List ℕ → Option Param
 field_param_read piece = if is_field_param piece then Some (field_param_of piece) else None
 

@@ -33,7 +33,7 @@ host_of text = named text (ip4_of text) where
   named text None = Name text
   named text (Some octets) = Ip4 octets
 
--- the host of a text of its form
+-- the host in a well-formed text
 unfoldable pub host_read : List ℕ → Option Host
 host_read text = if is_host text then Some (host_of text) else None
 

@@ -49,7 +49,7 @@ fn is_field_value(text: &[u8]) -> bool
     is_run_of_token(text) || is_quoted(text) || is_bracketed(text)
 }
 
-/// The parameter that a piece is, if it is of its form.
+/// The parameter in a piece, if it is well formed.
 #[tactic(auto, unfolding(crate::specs::FieldParams::is_field_param, crate::specs::FieldParams::field_param_read))]
 fn field_param(piece: &[u8]) -> Option<Param<'_>>
     ensures { result ≡ field_param_read piece.now }

@@ -1,4 +1,4 @@
-//! Addresses as the system has them.
+//! Addresses in the system's form.
 
 use sip_uri::Addr;
 use std::net::{Ipv4Addr, SocketAddr};
@@ -9,7 +9,7 @@ pub(crate) fn to_system(addr: Addr) -> SocketAddr {
     SocketAddr::from((Ipv4Addr::new(a, b, c, d), addr.port))
 }
 
-/// An address of the server's kind. None for one of IPv6.
+/// An address in the server's form. None for an IPv6 address.
 pub(crate) fn from_system(addr: SocketAddr) -> Option<Addr> {
     match addr {
         SocketAddr::V4(v4) => Some(Addr {

@@ -1,5 +1,5 @@
 //! The sockets of a server: one for SIP and one at each relay port, what waits for them, and notes of what they took
-//! and sent, for clauses alone; and standard error, as a thread writes to it. It knows no messages and no calls.
+//! and sent, only for clauses. Also standard error, as a thread writes to it. It knows no messages and no calls.
 #![tactic(auto)]
 
 mod addresses;

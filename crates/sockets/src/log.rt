@@ -1,4 +1,4 @@
-//! What a socket of the system took or sent, for clauses alone: it has no bytes.
+//! What a socket of the system took or sent, only for clauses: it has no bytes.
 
 ghost use Rattle.std.specs.Prelude.{◌≡◌, List, [], ◌∷◌, ◌++◌};
 ghost use Rattle.std.specs.Coded.{coded_list};

@@ -1,4 +1,4 @@
-//! Where datagrams wait that the signalling has not taken.
+//! Where datagrams wait until the signalling takes them.
 
 use libc::net::{SO_RCVBUF, SOL_SOCKET, setsockopt};
 use mio::net::UdpSocket;

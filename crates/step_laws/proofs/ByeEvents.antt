@@ -177,7 +177,7 @@ module _ (reads : Reading) (describes : BodiesDescribe) (law : SentIsRead) (s : 
       (subst (λ x. Tells scene (actions_in (row_in x n.offerer (signals.Bye end))) what) (sym is)
       (subst (λ x. Tells scene (actions_in (row_in (stages.Ending interval) n.offerer (signals.Bye x))) what) (sym same) (bye_ends scene (lent_asker came) refl interval n.offerer)))
 
--- ---- of an agent that stands
+-- ---- of an agent that stands after a trace
 
 module _ (reads : Reading) (describes : BodiesDescribe) (law : SentIsRead) (s : Contents) (event : Event) (t : List Datagram) (k : ℕ) (stands : AgentStands s t k) (source : Addr) (bytes : List ℕ) (r : Request) (id : ℕ) (from : IsSource source) (begins : BeginsTransaction s event source bytes r id) (place : ℕ) (c : StandingCall) (n : Standing) (at_place : StandsAt s place c n) (end : End) (is_bye : IsBye s event r place end) where
   scenes : KnowsScenes (office s)

@@ -158,7 +158,7 @@ module _ (s : Contents) (event : Event) where
       ∙ (ap (timed_out (office s) due_at fires) h.stands
       ∙ ap (timed_out_at (office s) due_at fires) h.call))))))
 
--- ---- of an agent that stands
+-- ---- of an agent that stands after a trace
 
 module _ (reads : Reading) (describes : BodiesDescribe) (law : SentIsRead) (s : Contents) (event : Event) (t : List Datagram) (k : ℕ) (stands : AgentStands s t k) (place : ℕ) (c : StandingCall) (n : Standing) (at_place : StandsAt s place c n) where
   abbrev e : Setting

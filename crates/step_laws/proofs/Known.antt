@@ -1,4 +1,4 @@
--- What is known of an agent that stands, where its event counts.
+-- What is known of an agent that stands after a trace, where its event counts.
 use Rattle.std.proofs.Common.{ℕ, ◌<◌, ◌^◌, List}
 use Rattle.call_trace.specs.declared.call.Call.{Call}
 use Rattle.call_trace.specs.declared.datagram.Datagram.{Datagram}

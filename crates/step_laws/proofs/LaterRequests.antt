@@ -1,4 +1,4 @@
--- An INVITE or UPDATE inside a dialog that is no repeat: it is passed on, or gets its final response.
+-- An INVITE or UPDATE inside a dialog that is not a repeat: it is passed on, or gets its final response.
 use Rattle.std.proofs.Common.{◌≡◌, ◌∙◌, ℕ, codes, List, Option, Some, None, inl, inr, ◌⊎◌, refl, ap, sym, subst}
 use Rattle.std.specs.List.{All}
 use Rattle.std.proofs.lemmas.Option.{none-some}

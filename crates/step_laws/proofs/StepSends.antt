@@ -147,7 +147,7 @@ module _ (reads : Reading) (describes : BodiesDescribe) (law : SentIsRead) (s : 
         let sends : (o : Option StandingCall) → List Sent = λ o. (takes_by s.calls s.table (occasion s e) place input leg request o).dressed.sends in
         subst (λ o. AllGo what (sends o) ms) (sym there) (step_sends ms (subst (λ o. AreMessages (sends o) ms) there are))
 
--- for a signal that is no offer and no fit answer
+-- for a signal that is neither an offer nor a fit answer
 pub takes_sends : Reading → BodiesDescribe → SentIsRead → (s : Office) → KnowsScenes s → (e : Setting) (place : ℕ) (c : StandingCall) (n : Standing) → slice_get s.calls.calls place ≡ Some c → c.call.standing ≡ Some n → (input : Input) (signal : Signal)
     → IsSignalOf c.call input signal → (leg : Option LegDialog) (request : Option AskerValue) → CanCome input (without_offer leg request) → (what : List Going)
     → Tells (scene_at s e (without_offer leg request) c (call_row c.call input s.calls.pool e.now).description) (actions_in (row_in n.stage n.offerer signal)) what → (ms : List Message)

@@ -96,7 +96,7 @@ abbrev pub renewed : Option Uri → Dialog → Dialog
 renewed None d = d
 renewed (Some target) d = to_target target d
 
--- what goes in the dialog with the end that answered, which is that of before, renewed, and in the dialog with the
+-- what goes in the dialog with the end that answered, which is the earlier one, renewed, and in the dialog with the
 -- offerer (section 12.2.1.1)
 pub record SendsInside (goings : Dialog → Dialog → List Going) (c : StandingCall) (r : SipResponse) (offerer : End) (x : Effect) : Type 0 where
   pub across : Dialog

@@ -26,7 +26,7 @@ pub record Comes (s : Contents) (event : Event) (source : Addr) (bytes : List �
   pub read : message_of bytes ≡ Ok m
   pub branch : has_fit_branch (parts_of m).vias ≡ true
 
--- a request that is no repeat, and begins the transaction of this number, for which there is room (section 17.2.3)
+-- a request that is not a repeat, and begins the transaction of this number, for which there is room (section 17.2.3)
 pub record BeginsTransaction (s : Contents) (event : Event) (source : Addr) (bytes : List ℕ) (r : Request) (id : ℕ) : Type 0 where
   pub comes : Comes s event source bytes (Kinds.Request r)
   pub new : (reception_of s.table (Kinds.Request r)).verdict ≡ verdicts.New id

@@ -93,7 +93,8 @@ IsDroppedFor s event NoBranch = HasNoBranch event
 IsDroppedFor s event Clock = moments_end ≤ event.now
 IsDroppedFor s event Spent = max_tokens ≤ s.tokens
 
--- a request that would begin a transaction, where as many are live as may be, of all or of those from its address
+-- a request that would begin a transaction, where the limit of live ones is reached, of all or of those from its
+-- address
 pub record IsShed (s : Contents) (event : Event) : Type 0 where
   pub request : Request
   pub comes : IsBranched event (Kinds.Request request)

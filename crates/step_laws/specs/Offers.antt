@@ -48,7 +48,7 @@ pub record AsksAlike (came : Message) (offer : Description) (went : Message) : T
 -- ---- a first INVITE
 
 -- one by whose rule a call begins to this target, with this offer, which the relay carries; fewer calls are live than
--- may be, and enough pairs are free (RFC 3261 sections 8.2, 13.3.1 and 16.5)
+-- the limit, and enough pairs are free (RFC 3261 sections 8.2, 13.3.1 and 16.5)
 pub record IsFirstCall (s : Contents) (now : ℕ) (r : SipRequest) (to : Uri) (offer : Description) : Type 0 where
   pub rule : request_rule (office s) r now ≡ Call (calls.Begins to)
   pub described : described r.headers r.body ≡ Some offer

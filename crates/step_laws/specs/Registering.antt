@@ -24,7 +24,7 @@ use Rattle.step_laws.specs.Coming.{BeginsTransaction}
 use Rattle.event_rows.specs.Trace.{Entry, after_entry}
 use Rattle.event_rows.specs.Rule.{Alone}
 
--- The event brings this request to the registrar: it is no repeat, there is room for its transaction, and no rule
+-- The event brings this request to the registrar: it is not a repeat, there is room for its transaction, and no rule
 -- before refuses it.
 pub record Registers (s : Contents) (event : Event) (source : Addr) (r : Request) (id : ℕ) : Type 0 where
   pub bytes : List ℕ

@@ -28,9 +28,9 @@ use trace_reading::{bodies_describe, bytes_say_all};
 
 /// A call sent its offerer a 200 to an INVITE. Until its ACK comes, each timer sends the 200 again, byte by byte, to
 /// where it went (`repeated`). The ACK has nothing sent (`settled`), but where the other end has left, the offerer
-/// gets a BYE (`left`). Where no ACK comes in time, both ends get a BYE, first the offerer (`unacknowledged`); where
-/// the other end has left, only the offerer (`left_unacknowledged`), and where the offerer leaves too, its BYE gets
-/// 200 (`both_left`). Nothing else is sent. This holds after any events.
+/// gets a BYE (`left`). Where no ACK comes in time, both ends get a BYE, first the offerer (`unacknowledged`). Where
+/// the other end has left, only the offerer gets one (`left_unacknowledged`), and where the offerer leaves too, its
+/// BYE gets 200 (`both_left`). Nothing else is sent. This holds after any events.
 pub fn answers_wait_for_their_acks()
     ensures settled { (s : Contents) (event : Event) (t : List Datagram) (k : ℕ) → AgentStands s t k → (source : Addr) (bytes : List ℕ) (r : Request) (place : ℕ) →
         IsAwaitedAck s event source bytes r place → (c : StandingCall) (n : Standing) → StandsAt s place c n → awaits_ack n.stage ≡ true → has_session n.stage ≡ true → Sends [] (row s event) }

@@ -32,7 +32,7 @@ use trace_reading::{bodies_describe, bytes_say_all};
 use transactions::replies;
 
 /// A 2xx for which a call waits, with an answer that its open offer lets the end give: in that step the offerer gets a
-/// 200 to its request, with a matching answer; the ACK goes before it where the 2xx answers an INVITE, and none goes
+/// 200 to its request, with a matching answer. The ACK goes before it where the 2xx answers an INVITE; none goes
 /// where it answers an UPDATE. This holds after any events, where the transaction of the server's own request hands
 /// the 2xx up.
 pub fn fit_answers_are_passed_on()

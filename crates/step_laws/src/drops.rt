@@ -14,9 +14,9 @@ ghost use Rattle.step_laws.specs.Dropping.{IsAnsweredFor};
 /// can't be read, and no response can be made for it; if it is an ACK or a response whose branch does not begin as it
 /// has to; if it is a response to no request that waits for one, or a 2xx that says no address to go on with; or if it
 /// is an ACK that no call waits for. An event is also dropped where its moment can't be counted, or no token is left.
-/// A request is shed only if it would begin a transaction where as many are live as may be, and `Idle` is answered
-/// only if no timer is due, no call of a number is settled, or a configuration may not list such users. Every other
-/// event is done.
+/// A request is shed only if it would begin a transaction where the limit of live transactions is reached. `Idle` is
+/// returned only if no timer is due, no call of a number is settled, or a configuration may not list such users. Every
+/// other event is done.
 ///
 /// This holds for each agent whose set timers do something when they fire (`reasons`). Those of a new agent do, also
 /// after any events (`fireable`), so this holds for every agent (`agents`).

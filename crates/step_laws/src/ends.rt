@@ -32,10 +32,10 @@ use trace_reading::{bodies_describe, bytes_say_all};
 use transactions::replies;
 
 /// Whatever a call does for a BYE, a CANCEL, an ACK, a response, a timer of its own, or the end of timer B or F, each
-/// message that goes in that step is to one of its ends: a response to the request in which its offer came, the 200 to
-/// the request that comes, a request in its dialog with an end, at the address of its target, the CANCEL of the INVITE
-/// that it passed on, or its 200 again; or, for a refusal, the ACK of the INVITE that is refused. All that is sent
-/// for an offer, and to whom, is said by `first_invites_are_passed_on`, `first_invites_go_where_bound` and
+/// message of that step goes to one of its ends. It is a response to the request in which its offer came; the 200 to
+/// the request that comes; a request in its dialog with an end, at the address of its target; the CANCEL of the
+/// INVITE that it passed on; its 200 again; or, for a refusal, the ACK of the INVITE that is refused. All that is
+/// sent for an offer, and to whom, is said by `first_invites_are_passed_on`, `first_invites_go_where_bound` and
 /// `later_requests_go_across`.
 pub fn calls_speak_to_their_ends()
     ensures bye { (s : Contents) (event : Event) (t : List Datagram) (k : ℕ) → AgentStands s t k → (source : Addr) (bytes : List ℕ) (r : Request) (id : ℕ) →

@@ -29,10 +29,10 @@ use trace_reading::{bodies_describe, bytes_say_all};
 /// A BYE of an end of an answered call that no end has left: in that step it gets 200, and the other end, in its own
 /// dialog and at its target's address, a BYE (`settled`). Where an offer is open, its request gets 487 between them
 /// (`offering`). Where the other end was sent a 200 whose ACK has not come, only the 200 to the BYE is sent
-/// (`unacknowledged`). Of a caller whose first INVITE has no final response, that INVITE gets 487 after the 200; and
+/// (`unacknowledged`). Of a caller whose first INVITE has no final response, that INVITE gets 487 after the 200.
 /// CANCEL goes where the INVITE was passed on to (`early`), but not before a provisional response came from there
-/// (`silent`). Nothing else is sent. This holds after any events, where the BYE came from an address, is no repeat,
-/// and no rule refuses it.
+/// (`silent`). Nothing else is sent. This holds after any events, where the BYE came from an address, is not a
+/// repeat, and no rule refuses it.
 pub fn byes_are_passed_on()
     ensures settled { (s : Contents) (event : Event) (t : List Datagram) (k : ℕ) → AgentStands s t k → (source : Addr) (bytes : List ℕ) (r : Request) (id : ℕ) →
         IsSource source → BeginsTransaction s event source bytes r id → (place : ℕ) (c : StandingCall) (n : Standing) → StandsAt s place c n → (end : End) → IsBye s event r place end →
@@ -57,11 +57,11 @@ pub fn byes_are_passed_on()
     sent_is_read();
 }
 
-/// A CANCEL of a first INVITE without a final response: in that step it gets 200, the INVITE 487, and CANCEL goes where
-/// the INVITE was passed on to (`rung`), but not before a provisional response came from there (`silent`). One of an
-/// INVITE inside a call gets 200, and CANCEL goes to the other end likewise (`inside`, `inside_silent`): the INVITE
-/// waits for that end's final response. Nothing else is sent. This holds after any events, where the CANCEL came from
-/// an address and is no repeat.
+/// A CANCEL of a first INVITE without a final response: in that step it gets 200, and the INVITE 487. CANCEL goes to
+/// where the INVITE was passed on (`rung`), but not before a provisional response came from there (`silent`). One of
+/// an INVITE inside a call gets 200, and CANCEL goes to the other end likewise (`inside`, `inside_silent`): the
+/// INVITE waits for that end's final response. Nothing else is sent. This holds after any events, where the CANCEL
+/// came from an address and is not a repeat.
 pub fn cancels_are_passed_on()
     ensures rung { (s : Contents) (event : Event) (t : List Datagram) (k : ℕ) → AgentStands s t k → (source : Addr) (bytes : List ℕ) (r : Request) (id : ℕ) →
         IsSource source → BeginsTransaction s event source bytes r id → (place : ℕ) (c : StandingCall) (n : Standing) → StandsAt s place c n → IsCancel s event r place →
@@ -85,7 +85,7 @@ pub fn cancels_are_passed_on()
 
 /// A second CANCEL of an INVITE inside a call gets 200, and nothing else is sent, because the first one waits for a
 /// provisional response (`waiting`), or was passed on (`passed`). This holds after any events, where the CANCEL came
-/// from an address and is no repeat.
+/// from an address and is not a repeat.
 pub fn second_cancels_go_no_further()
     ensures waiting { (s : Contents) (event : Event) (t : List Datagram) (k : ℕ) → AgentStands s t k → (source : Addr) (bytes : List ℕ) (r : Request) (id : ℕ) →
         IsSource source → BeginsTransaction s event source bytes r id → (place : ℕ) (c : StandingCall) (n : Standing) → StandsAt s place c n → IsCancel s event r place →

@@ -27,9 +27,9 @@ use sip_writing::written_is_read;
 use trace_reading::{bodies_describe, bytes_say_all};
 
 /// A first INVITE that no rule refuses, to a user who is bound, with an offer that the relay carries, and for which
-/// there is room: in that step the caller gets 100, and the callee, at the address where it is bound, an INVITE without
-/// a To tag, with a matching offer. This holds after any events, where the INVITE came from an address and is no
-/// repeat.
+/// there is room: in that step the caller gets 100. The callee, at the address where it is bound, gets an INVITE
+/// without a To tag, with a matching offer. This holds after any events, where the INVITE came from an address and is
+/// not a repeat.
 pub fn first_invites_are_passed_on()
     ensures { (s : Contents) (event : Event) (t : List Datagram) (k : ℕ) → AgentStands s t k → (source : Addr) (bytes : List ℕ) (r : Request) (id : ℕ) →
         IsSource source → BeginsTransaction s event source bytes r id → (to : Uri) (offer : Description) →
@@ -45,9 +45,9 @@ pub fn first_invites_are_passed_on()
     calls_are_served();
 }
 
-/// An INVITE or UPDATE inside a dialog that is no repeat: in that step the other end gets a matching offer, in a
-/// request of the same method; or it gets its final response from the server. One without an offer that can be read
-/// gets its final response. This holds after any events, where the request came from an address.
+/// An INVITE or UPDATE inside a dialog that is not a repeat: in that step the other end gets a matching offer, in a
+/// request of the same method; or the request gets its final response from the server. One without an offer that can
+/// be read gets its final response. This holds after any events, where the request came from an address.
 pub fn later_requests_are_served()
     ensures { (s : Contents) (event : Event) (t : List Datagram) (k : ℕ) → AgentStands s t k → (source : Addr) (bytes : List ℕ) (r : Request) (id : ℕ) →
         IsSource source → BeginsTransaction s event source bytes r id → IsLaterRequest r → IsServed bytes r (row s event) }
@@ -61,10 +61,10 @@ pub fn later_requests_are_served()
     calls_are_served();
 }
 
-/// An INVITE or UPDATE inside a dialog that is no repeat, and to whom it goes: it came in the dialog with an end of a
-/// call, and in that step goes, by the same method, in the dialog with the other end of that call, to the address of
-/// its target; to an INVITE goes 100 before. Or its final response goes back to where it came from. Nothing else is
-/// sent. This holds after any events, where the request came from an address.
+/// An INVITE or UPDATE inside a dialog that is not a repeat, and to whom it goes. It came in the dialog with an end
+/// of a call. In that step it goes, by the same method, in the dialog with the other end of that call, to the address
+/// of its target. An INVITE gets 100 before that. Or its final response goes back to where it came from. Nothing else
+/// is sent. This holds after any events, where the request came from an address.
 pub fn later_requests_go_across()
     ensures { (s : Contents) (event : Event) (t : List Datagram) (k : ℕ) → AgentStands s t k → (source : Addr) (bytes : List ℕ) (r : Request) (id : ℕ) →
         IsSource source → BeginsTransaction s event source bytes r id → IsLaterRequest r → GoesAcross s.calls.calls r source (row s event) ⊎ GoesBack r source (row s event) }
@@ -79,7 +79,7 @@ pub fn later_requests_go_across()
 }
 
 /// A first INVITE that is passed on goes to the contact that its callee bound last, by the REGISTERs of all events,
-/// each with the rest of its life: that target is the one of `first_invites_are_passed_on`. This holds after any
+/// each with the rest of its life. That target is the one of `first_invites_are_passed_on`. This holds after any
 /// events of a new agent (`agents`), and for each agent whose registrar is as its REGISTERs leave it (`bound`).
 pub fn first_invites_go_where_bound()
     ensures bound { (s : Contents) (rules : Rules) (history : List RegistrarEvent) → StandsAfter s.registrar rules history → (event : Event) (r : Request) (to : Uri) (offer : Description) →

@@ -59,9 +59,9 @@ pub fn refusals_go_back()
     sent_is_read();
 }
 
-/// A response that goes up and that no call takes: a refusal gets the ACK of its INVITE, at the address where that went
-/// (`refusal`); a 2xx or a provisional response gets nothing (`success`, `provisional`). Nothing else is sent. This
-/// holds after any events.
+/// A response that goes up and that no call takes. A refusal gets the ACK of its INVITE, at the address where that
+/// went (`refusal`). A 2xx or a provisional response gets nothing (`success`, `provisional`). Nothing else is sent.
+/// This holds after any events.
 pub fn unclaimed_responses_get_an_ack_at_most()
     ensures refusal { (s : Contents) (event : Event) (t : List Datagram) (k : ℕ) → AgentStands s t k → (source : Addr) (bytes : List ℕ) (r : Response) (id : ℕ) (asked : Transaction) →
         GoesUp s event source bytes r id asked → response_rule s.calls.calls asked.parts r ≡ rule.Silent → class_of r.status ≡ Failure → Sends (own_acks asked r) (row s event) }

@@ -18,8 +18,8 @@ ghost use Rattle.step_laws.specs.Registering.{AreRegistrations, BringsUsers, Lis
 
 /// After any events of a new agent its registrar has what the REGISTERs and the lists of users among them leave, in
 /// their order, and nothing else changes it (`stands`). Where a registrar is so, an arriving REGISTER is answered by
-/// the fold over that list: where it is not refused, the one response is a 200 that lists what its user is bound to
-/// at its moment, itself counted, each binding with the rest of its life (`lists`); where it is refused, the one
+/// the fold over that list. Where it is not refused, the one response is a 200 that lists what its user is bound to
+/// at its moment, itself counted, each binding with the rest of its life (`lists`). Where it is refused, the one
 /// response has the status of the refusal, and the registrar stays (`refused`). A list of users is taken: the
 /// registrar then has it, nothing is sent, and all calls are as they were (`listed`). Whether an event brings a
 /// REGISTER or a list can be decided, so there is such a list of any events (`exact`).

@@ -21,8 +21,8 @@ ghost use Rattle.step_laws.specs.Coming.{BeginsTransaction};
 ghost use Rattle.step_laws.specs.Replies.{RespondsOnce};
 
 /// A request that the server answers by itself gets one response, which goes back to where it came from, and nothing
-/// else is sent: one that begins a transaction (`alone`), one whose branch does not begin as it has to (`unfit`), and
-/// one that can't be read, where something in it can be answered (`unread`).
+/// else is sent. This holds for one that begins a transaction (`alone`), one whose branch does not begin as it has to
+/// (`unfit`), and one that can't be read, where something in it can be answered (`unread`).
 pub fn own_responses_go_back()
     ensures alone { (s : Contents) (event : Event) (source : Addr) (bytes : List ℕ) (r : Request) (id : ℕ) → BeginsTransaction s event source bytes r id → (reply : Reply) →
         request_rule (office s) r (moment_at s event.now) ≡ Alone reply → RespondsOnce r.parts source (row s event) }

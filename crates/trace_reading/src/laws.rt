@@ -58,8 +58,8 @@ pub fn dialogs_agree()
         dialog_of (sent_at n (trace_message bytes (Kinds.Request (request_in d via method number hops further body)))) ≡ dialog_named d.id }
 {}
 
-/// The method of a message in a trace is that of its CSeq, which for a request that was read is the request's own;
-/// and the methods that a trace speaks of are written as dialogs write them.
+/// The method of a message in a trace is that of its CSeq, which for a request that was read is the request's own.
+/// The methods that a trace speaks of are written as dialogs write them.
 pub fn methods_agree()
     ensures request { (bytes : List ℕ) (request : Request) →
         ReadsMessage bytes (Kinds.Request request) → (trace_message bytes (Kinds.Request request)).method ≡ request.method }

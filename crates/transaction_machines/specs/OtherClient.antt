@@ -1,4 +1,4 @@
--- The client transaction of a request that is no INVITE, line by line (RFC 3261 section 17.1.2).
+-- The client transaction of a request that is not an INVITE, line by line (RFC 3261 section 17.1.2).
 use Rattle.std.specs.Prelude.{ℕ, Option, None}
 use Rattle.sip_message.specs.declared.words.Class.TheVariants.{Provisional, Success, Failure}
 use Rattle.transaction_machines.specs.declared.input.Input.{Input}

@@ -1,4 +1,4 @@
--- The server transaction of a request that is no INVITE, line by line (RFC 3261 section 17.2.2).
+-- The server transaction of a request that is not an INVITE, line by line (RFC 3261 section 17.2.2).
 use Rattle.std.specs.Prelude.{◌*◌, Option, None}
 use Rattle.sip_message.specs.declared.words.Class.TheVariants.{Provisional, Success, Failure}
 use Rattle.transaction_machines.specs.declared.input.Input.{Input}

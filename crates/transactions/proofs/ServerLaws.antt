@@ -1,4 +1,4 @@
--- No two server transactions have one key, and there are at most as many as may be.
+-- No two server transactions have one key, and there are at most as many as the limit.
 use Rattle.std.proofs.Common.{◌≡◌, ◌≢◌, ◌≤◌, ◌<◌, ◌+◌, ℕ, Bool, true, false, cond, not, ◌&&◌, nat_eq, List, [], ◌∷◌, ◌++◌, length, set, Option, Some, None, option_map, codes, nat_lt, unwrap_or, is_none, position, refl, ap, sym, subst, ◌∙◌, inl, inr, arith}
 use Rattle.std.specs.List.{list_any}
 use Rattle.std.specs.Cmp.Lexicographic.{pointwise, bytes_decides}
@@ -94,7 +94,7 @@ key_apart a b e = turned_by (same_key a b) (same_key b a) (key_turn b a) e
 method_by : (first own : List ℕ) (b : Bool) → b ≡ false → pointwise nat_eq first (cond b (codes "INVITE") own) ≡ pointwise nat_eq first own
 method_by first own b e = rw e refl
 
--- a request that is no ACK is a copy of another where it has its key
+-- a request that is not an ACK is a copy of another where it has its key
 copy_is_key : (request first : Parts) → is_method (codes "ACK") request ≡ false → is_copy request first ≡ same_key first request
 unfolding is_copy
 copy_is_key request first h =
@@ -117,7 +117,7 @@ new_key slots t i u free there server =
 
 -- ---- a transaction takes a line
 
--- who is live afterwards was live before
+-- one that is live afterwards was live before
 record Was (slots : List (Option Transaction)) (j : ℕ) (u : Transaction) : Type 0 where
   t : Transaction
   there : at slots j ≡ Some t

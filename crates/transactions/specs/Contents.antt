@@ -252,7 +252,7 @@ RefusesFire table timer now Full = ⊥
 
 -- ---- questions
 
--- another server transaction, in whichever state, has the tag of From, Call-ID, number and method of a request without
--- tag in To
+-- another server transaction, in any state, has the tag of From, Call-ID, number and method of a request without tag
+-- in To
 abbrev pub merged : Contents → Parts → Bool
 merged table parts = not (is_some (tag_value parts.to.params)) && list_any (is_merged parts) table.slots

@@ -22,7 +22,7 @@ last_timer parts = if is_method (codes "INVITE") parts then B else F
 abbrev pub longest_wait : ℕ → Parts → ℕ
 longest_wait first_wait parts = if begins_dialog parts then min first_wait timeout else timeout
 
--- A request that is no ACK has its last timer set.
+-- A request that is not an ACK has its last timer set.
 abbrev pub GivesUp : Contents → Request → Addr → ℕ → Type 0
 GivesUp table r to now =
     is_method (codes "ACK") r.parts ≡ false

@@ -1,4 +1,4 @@
--- The prints of the places, which are kept beside them, so that the index is changed at an end without making them
+-- The prints of the places, which are kept with them, so that the index is changed at an end without making them
 -- again.
 use Rattle.std.specs.Prelude.{◌≡◌, ℕ, ◌+◌, ◌≤◌, List, map, Option}
 use Rattle.index.specs.declared.print.PrintKey.{PrintKey}

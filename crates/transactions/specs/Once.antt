@@ -18,7 +18,7 @@ use Rattle.transactions.specs.Slots.{at, is_asked}
 abbrev pub stands : Contents → Parts → Bool
 stands table parts = list_any (is_asked parts) table.slots
 
--- the same transaction, in whichever state
+-- the same transaction, in any state
 pub record IsSameRequest (t u : Transaction) : Type 0 where
   pub side : is_server u.state ≡ is_server t.state
   pub uri : u.uri ≡ t.uri

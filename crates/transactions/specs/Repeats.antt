@@ -57,7 +57,7 @@ KeepsIfThere bytes (Some t) = KeepsAnswer bytes t
 abbrev pub KeepsAt : List ℕ → Contents → ℕ → Type 0
 KeepsAt bytes table id = (t : Transaction) × (at table.slots id ≡ Some t) × KeepsAnswer bytes t
 
--- a final response that is taken, but a 2xx to an INVITE, is kept
+-- a final response that is taken, except a 2xx to an INVITE, is kept
 abbrev pub KeepsFinal : Contents → ℕ → Response → ℕ → Type 0
 KeepsFinal table id r now =
     IfSome (line_at table id (answer_input r)) (λ step. IfSome step.next (λ next. is_completed next ≡ true

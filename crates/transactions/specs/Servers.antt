@@ -1,4 +1,4 @@
--- Server transactions: no two have one key, and there are at most as many as may be.
+-- Server transactions: no two have one key, and there are at most as many as the limit.
 use Rattle.std.specs.Prelude.{◌≡◌, ◌≢◌, ◌≤◌, ◌<◌, ℕ, Bool, true, false, ◌&&◌, nat_eq, List, [], ◌∷◌, codes, Option, Some}
 use Rattle.std.specs.List.{list_any}
 use Rattle.std.specs.Cmp.Lexicographic.{pointwise}
@@ -32,7 +32,7 @@ pub record AreServers (slots : List (Option Transaction)) : Type 0 where
 
 -- ---- a change
 
--- a server transaction may begin: its request is no ACK, no live one has its key, and there is room
+-- a server transaction may begin: its request is not an ACK, no live one has its key, and there is room
 pub record IsFree (slots : List (Option Transaction)) (t : Transaction) : Type 0 where
   pub no_ack : is_method (codes "ACK") t.parts ≡ false
   pub new : list_any (is_asked t.parts) slots ≡ false

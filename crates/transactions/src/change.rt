@@ -1,4 +1,4 @@
-//! Changes of the table for which all memory is at hand.
+//! Changes of the table for which everything that takes memory is ready.
 
 ghost use Rattle.std.specs.Prelude.{ℕ, ◌≡◌, ◌+◌, IfOk, IsTrue, Some, None, false};
 ghost use Rattle.sip_writing.specs.Writing.{message_text};

@@ -11,7 +11,7 @@ pub enum TableError {
     /// No transaction has the number, or it is not one that takes the call, or the timer is not set or not due.
     #[error("X1: no such transaction")]
     Unknown,
-    /// The core has given a final response before, and this is no further 2xx in Accepted.
+    /// The core has given a final response before, and this is not a further 2xx in Accepted.
     #[error("X2: answer after a final one")]
     AfterFinal,
     /// There are as many server transactions as there may be.

@@ -23,7 +23,7 @@ ghost use Rattle.transactions.specs.Replies.{RepliesWhereTaken};
 ghost use Rattle.transactions.specs.Once.{stands, IsLeft, NewOnce};
 
 /// A request is new only where no server transaction of its key is live, and then one is. A call takes a transaction
-/// away where its line ends it, and nowhere else; so over any list of calls a request is not new again, nor is a copy
+/// away where its line ends it, and nowhere else. So over any list of calls a request is not new again, nor is a copy
 /// of it, while the transaction that it began lasts.
 pub fn once()
     ensures begins { (table : Contents) (request : Request) →
@@ -69,9 +69,9 @@ pub fn others_are_untouched()
     ensures { (table : Contents) (call : Call) → LeavesOthers table call }
 {}
 
-/// The final response of the core, but a 2xx to an INVITE, is kept over any calls while its transaction lasts; until
-/// the ACK comes, a copy of the request gets its bytes again, and timer G sends them again (RFC 3261 sections 17.2.1
-/// and 17.2.2).
+/// The final response of the core, except a 2xx to an INVITE, is kept over any calls while its transaction lasts.
+/// Until the ACK comes, a copy of the request gets its bytes again, and timer G sends them again (RFC 3261 sections
+/// 17.2.1 and 17.2.2).
 pub fn answers_are_repeated()
     ensures kept { (table : Contents) (id : ℕ) (response : Response) (now : ℕ) → KeepsFinal table id response now }
     ensures left { (table : Contents) (call : Call) → LeavesAnswer table call }
@@ -80,9 +80,9 @@ pub fn answers_are_repeated()
     ensures timer { (transaction : Transaction) → ResendsAnswer transaction }
 {}
 
-/// A request of the server's own that is no ACK has the timer set at which it is given up: B for an INVITE, and F for
-/// another request, 64*T1 after it was sent (RFC 3261 sections 17.1.1.2 and 17.1.2.2). An INVITE that begins a dialog
-/// has it sooner, where the table is made so.
+/// A request of the server's own that is not an ACK has the timer set at which it is given up: B for an INVITE, and F
+/// for another request, 64*T1 after it was sent (RFC 3261 sections 17.1.1.2 and 17.1.2.2). An INVITE that begins a
+/// dialog has it sooner, where the table is made so.
 pub fn requests_are_given_up()
     ensures { (table : Contents) (request : Request) (to : Addr) (now : ℕ) → GivesUp table request to now }
 {}

@@ -22,7 +22,7 @@ use std::marker::Model;
 use text::Text;
 use transaction_machines::State;
 
-/// Room for this many transactions is made at once, where room is needed at all, so that this is seldom.
+/// Room for this many transactions is made at once, where room is needed at all, so that it happens seldom.
 const SPARE: usize = 16;
 
 /// The places of the table.

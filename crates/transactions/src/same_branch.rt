@@ -101,7 +101,8 @@ fn cancel_by(
 }
 
 /// The CANCEL of the INVITE of a client transaction: its Request-URI, only its top Via, From, To, Call-ID and number
-/// (RFC 3261 section 9.1). None where the transaction is no client's of an INVITE, or the INVITE has no Via.
+/// (RFC 3261 section 9.1). None where the transaction is not a client transaction of an INVITE, or the INVITE has no
+/// Via.
 pub fn cancel_of(
     alloc: Global,
     invite: &Transaction,

@@ -36,13 +36,13 @@ users_after file (Some (Refused fault)) = record { users = file.users; is_refuse
 pub record IsRight (file : Contents) (bytes : List ℕ) (report : Option FileReport) : Type 0 where
   pub config : Config
   pub reads : ReadsConfig bytes config
-  pub report : report ≡ right_report file config.users
+  pub reported : report ≡ right_report file config.users
 
 -- or else the report says what is wrong with them, and where
 pub record IsWrong (bytes : List ℕ) (report : Option FileReport) : Type 0 where
   pub fault : ConfigFault
   pub is_fault : IsFaultOf bytes fault
-  pub report : report ≡ Some (Refused (Some fault))
+  pub reported : report ≡ Some (Refused (Some fault))
 
 abbrev pub IsReportOf : Contents → List ℕ → Option FileReport → Type 0
 IsReportOf file bytes report = IsRight file bytes report ⊎ IsWrong bytes report

@@ -6,7 +6,7 @@ ghost use Rattle.std.specs.Cmp.Lexicographic.{pointwise};
 ghost use Rattle.user_file.specs.Lists.{is_among, missing_count};
 
 use std::alloc::{AllocError, Global};
-use text::{Text, Texts};
+use text::Text;
 
 /// Whether a user is among others.
 fn is_among(user: &Text<'static>, others: &[Text<'static>]) -> bool
@@ -28,12 +28,12 @@ pub(crate) fn missing_count(users: &[Text<'static>], others: &[Text<'static>]) -
 pub(crate) fn keep_all(
     alloc: Global,
     users: &[Text<'static>],
-) -> Result<Texts<'static>, AllocError>
-    ensures { IfOk result (λ kept. kept ≡ users.now) }
+) -> Result<Vec<Text<'static>>, AllocError>
+    ensures { IfOk result (λ kept. kept.items ≡ users.now) }
 {
     let mut kept = Vec::new(alloc);
     for user in users {
         kept.push(user.keep(alloc)?)?;
     }
-    Ok(Texts::from_vec(kept))
+    Ok(kept)
 }

@@ -16,7 +16,7 @@ use text::{Text, Texts};
 pub struct UserFile {
     alloc: Global,
     /// Those that were reported last.
-    users: Texts<'static>,
+    users: Vec<Text<'static>>,
     is_refused: bool,
 }
 
@@ -35,7 +35,7 @@ impl Model for UserFile {
 
     ghost Value = { Contents };
 
-    ghost view = { λ f. record { users = f.users; is_refused = f.is_refused } };
+    ghost view = { λ f. record { users = f.users.items; is_refused = f.is_refused } };
 }
 
 impl UserFile {
@@ -64,8 +64,8 @@ impl UserFile {
         ensures file { IfOk result (λ report. self.new ≡ users_after self.old report) }
         ensures err { OnErr result (self.new ≡ self.old) }
     {
-        let added = missing_count(users, self.users.as_slice());
-        let removed = missing_count(self.users.as_slice(), users);
+        let added = missing_count(users, &self.users);
+        let removed = missing_count(&self.users, users);
         if added == 0 && removed == 0 {
             let was_refused = self.is_refused;
             self.is_refused = false;
@@ -75,7 +75,7 @@ impl UserFile {
         self.users = keep_all(self.alloc, users)?;
         self.is_refused = false;
         Ok(Some(FileReport::Users {
-            users: reported,
+            users: Texts::from_vec(reported),
             added,
             removed,
         }))

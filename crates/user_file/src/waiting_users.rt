@@ -69,8 +69,8 @@ impl WaitingUsers {
         }
     }
 
-    /// The agent shall have these users, of whom this many were added to the list before, and this many removed from it.
-    /// They may be handed in at once. Counts above 2^64 - 1 stay there. Takes no memory.
+    /// The agent should have these users; this many were added to the list before, and this many removed from it. They
+    /// may be handed in at once. A count that has reached 2^64 - 1 stays there. Takes no memory.
     pub fn want(&mut self, users: Texts<'static>, added: usize, removed: usize)
         ensures { self.new ≡ wanting self.old users.entry added removed }
     {
@@ -81,8 +81,8 @@ impl WaitingUsers {
         self.lose();
     }
 
-    /// The users to be handed in at this moment, in milliseconds, if there are any. After that they may be handed in
-    /// again in a second.
+    /// The users to be handed in at this moment, in milliseconds, if there are any. They may be handed in again a second
+    /// later.
     pub fn hand_in(&mut self, now: u64) -> Result<Option<Texts<'static>>, AllocError>
         ensures due { IfOk result (λ users. users ≡ due_at now self.old) }
         ensures handed { IfOk result (λ users. self.new ≡ handed_in now self.old) }
@@ -97,10 +97,10 @@ impl WaitingUsers {
         self.next_try = now.saturating_add(BETWEEN_TRIES);
         let users = keep_all(self.alloc, wanted.as_slice())?;
         self.are_handed_in = true;
-        Ok(Some(users))
+        Ok(Some(Texts::from_vec(users)))
     }
 
-    /// A round is over whose event was lost, or which had none: what was handed in for it wasn't taken. Takes no memory.
+    /// A round is over that lost its event or had none: what was handed in for it wasn't taken. Takes no memory.
     pub fn lose(&mut self)
         ensures { self.new ≡ record self.old { are_handed_in = false } }
     {

@@ -1,5 +1,5 @@
--- The lines of a call that was answered, for what is no offer and no fit answer, as moves of the trace's calls. x is
--- the offerer, and b whether it is the caller.
+-- The lines of a call that was answered, for what is neither an offer nor a fit answer, as moves of the trace's
+-- calls. x is the offerer, and b whether it is the caller.
 use Rattle.std.proofs.Common.{◌≡◌, ℕ, ◌≤◌, nat_le, nat_lt, Bool, true, false, cond, not, ◌&&◌, List, [], ◌∷◌, ◌++◌, Option, Some, None, refl, sym, subst, arith}
 use Rattle.std.specs.Prelude.{IsTrue, slice_get}
 use Rattle.std.proofs.lemmas.Bool.{le-leb, le-ltb}

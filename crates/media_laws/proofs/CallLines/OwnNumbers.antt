@@ -1,4 +1,5 @@
--- A call that goes on in a line counts no number of its own, so that the request of its open offer is that of before.
+-- A call that goes on in a line counts no number of its own, so that the request of its open offer is the earlier
+-- one.
 use Rattle.std.proofs.Common.{◌≡◌, ◌∙◌, ℕ, ◌==◌, Bool, true, false, ◌||◌, cond, List, Option, Some, None, option_map, ap, refl}
 use Rattle.std.proofs.lemmas.Option.{same_Some}
 use Rattle.sip_message.specs.Words.{tag_text}

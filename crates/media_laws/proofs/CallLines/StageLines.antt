@@ -1,4 +1,4 @@
--- The lines of each stage of a call, for what is no offer and no fit answer, as moves of the trace's calls.
+-- The lines of each stage of a call, for what is neither an offer nor a fit answer, as moves of the trace's calls.
 use Rattle.std.proofs.Common.{◌≡◌, ℕ, ◌==◌, ◌≤◌, ◌<◌, nat_le, nat_lt, Bool, true, false, cond, ◌&&◌, ◌||◌, List, [], ◌∷◌, ◌++◌, Option, Some, None, refl, sym, subst, arith}
 use Rattle.std.specs.Prelude.{IsTrue, slice_get}
 use Rattle.std.proofs.lemmas.Bool.{le-leb}

@@ -1,4 +1,4 @@
--- What a trace sees of a response that was read, beside the request that it is one to (RFC 3261 section 17.1.3).
+-- What a trace sees of a response that was read, next to the request that it answers (RFC 3261 section 17.1.3).
 use Rattle.std.proofs.Common.{◌≡◌, ◌∙◌, ℕ, ◌&&◌, Bool, true, false, not, ◌||◌, List, [], codes, nat_le, nat_lt, cond, ltb-true, Option, None, refl, ap, sym, Some, unwrap_or}
 use Rattle.std.specs.Prelude.{IsTrue, nat_eq}
 use Rattle.std.specs.Cmp.Lexicographic.{bytes_decides, pointwise}

@@ -1,4 +1,4 @@
--- A message that is sent is no 200 to a BYE that is new, or has a tag that was made.
+-- A message that is sent is not a 200 to a BYE that is new, or has a tag that was made.
 use Rattle.std.proofs.Common.{◌≡◌, ℕ, List, Option, None}
 use Rattle.std.specs.Prelude.{IsTrue}
 use Rattle.call_trace.specs.declared.datagram.Datagram.{Datagram}

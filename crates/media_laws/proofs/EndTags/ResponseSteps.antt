@@ -97,7 +97,7 @@ module _ (reads : Reading) (names : ReadsNames) (describes : BodiesDescribe) (la
   GoesOn input acked leg = (x : Effect) → x ≡ takes s e entries (reception_of s.table (Kinds.Response r)).send acked place input leg → (ms : List Message) → AreMessages x.plan.sends ms → after.calls.calls ≡ x.calls.standing.calls
       → GoOn (ShowsCall after.table.slots (begun ++ more) (t ++ passed k taken ms)) after.calls.calls t old taken ms
 
-  -- with the dialog of before, or where the call is gone then
+  -- with the earlier dialog, or where the call is gone then
   by_response : (input : Input) (signal : Signal) (acked : Option ℕ) (leg : Option LegDialog) → IsSignalOf c.call input signal → CanCome input (without_offer leg None) → is_bye_signal signal ≡ false
       → FitsComing c leg ⊎ (next_in n (row_of n signal) ≡ None)
       → ((d : Call) (j : ℕ) → slice_get old j ≡ Some d → ShowsCall s.table.slots begun t c d → TakesSignal n (scene_at s e (without_offer leg None) c (call_row c.call input s.calls.pool e.now).description) d taken signal) → GoesOn input acked leg

@@ -1,4 +1,4 @@
--- What a call says in a step is no 200 to a BYE but the one to the BYE that comes, whose tag was made.
+-- What a call says in a step is not a 200 to a BYE but the one to the BYE that comes, whose tag was made.
 use Rattle.std.proofs.Common.{◌≡◌, ◌≢◌, ◌∙◌, ℕ, ◌+◌, ◌||◌, Bool, true, false, List, [], ◌∷◌, codes, Option, Some, None, refl, ap, sym, subst, arith}
 use Rattle.std.specs.Prelude.{nat_eq}
 use Rattle.std.specs.Cmp.Lexicographic.{bytes_decides, pointwise}

@@ -1,4 +1,4 @@
--- What a step of a call says, as the agent's rows take it, is no 200 to a BYE but the one to the BYE that comes.
+-- What a step of a call says, as the agent's rows take it, is not a 200 to a BYE but the one to the BYE that comes.
 use Rattle.std.proofs.Common.{◌≡◌, ◌∙◌, ℕ, ◌+◌, true, false, List, [], ◌∷◌, Option, Some, None, Ok, option_map, refl, ap, sym, subst, inl, inr}
 use Rattle.std.specs.Prelude.{slice_get}
 use Rattle.std.specs.Option.{option_copied}
@@ -83,7 +83,7 @@ pub record Laws : Type 0 where
   pub describes : BodiesDescribe
   pub sent : SentIsRead
 
--- a scene's request and offer, lent
+-- a scene's request and offer, borrowed
 lent_no_bye : (a : Option AskerValue) → ((x : AskerValue) → a ≡ Some x → is_bye x.parts ≡ false) → IsOfNoBye (option_map lent_asker a)
 lent_no_bye None h = tt
 lent_no_bye (Some a) h = h a refl

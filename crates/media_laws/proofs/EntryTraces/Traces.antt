@@ -1,4 +1,4 @@
--- Any entries of an agent that stands have a trace.
+-- Any entries of an agent that stands after a trace have a trace.
 use Rattle.std.proofs.Common.{ℕ, suc, List, [], ◌∷◌, ◌++◌, Option, Some, None, refl, sym, subst}
 use Rattle.std.specs.List.{All}
 use Rattle.std.proofs.lemmas.List.Elements.{All-head, All-tail}

@@ -119,7 +119,7 @@ nothing_taken whats.Due answer taken not_done h = h
 nothing_taken (whats.Silent number) answer taken not_done h = h
 nothing_taken (whats.Users users) answer taken not_done h = h
 
--- nothing is taken with what is no datagram
+-- nothing is taken with what is not a datagram
 pub none_with : (what : What) (answer : Taken) (taken : Option Message) → IsNoDatagram what → IsTaken what answer taken → taken ≡ None
 none_with (whats.Datagram source bytes) answer taken alone h = absurd alone
 none_with whats.Due answer taken alone h = h
@@ -141,7 +141,7 @@ reply_done s e r begun id replies.Registration = registers_done s e r begun id (
 
 module _ (reads : Reading) (names : ReadsNames) (describes : BodiesDescribe) (s : Office) (begun : List Transaction) (sent : List Sent) (t : List Datagram) (ds : List Call) (k : AreTied s begun sent t ds)
     (callees : KnowsCallees s) (late : KnowsLate s begun t ds) (taken : Option Message) (ms : List Message) where
-  -- what an effect of this event comes to in the trace
+  -- what an effect of this event results in for the trace
   abbrev IsQuiet : What → Effect → Type 0
   IsQuiet what x = IsTaken what x.plan.taken taken → AreMessages x.plan.sends ms → Move offering t ds taken ms ds
 

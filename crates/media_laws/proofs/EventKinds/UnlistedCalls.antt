@@ -65,7 +65,7 @@ module _ (reads : Reading) (describes : BodiesDescribe) (law : SentIsRead) (keep
   Shows sent = ShowsCall after.table.slots (begun ++ more) (t ++ sent)
 
   module _ (taken : Option Message) (sent : List Message) (move : HiddenMove t old taken sent next) where
-    -- the trace's calls are those of before
+    -- the trace's calls are the earlier ones
     stay : Listed (IsLeft s.table.slots begun t) after.calls.calls old → GoOn (Shows (passed k taken sent)) after.calls.calls t old taken sent
     stay listed = (
       old,

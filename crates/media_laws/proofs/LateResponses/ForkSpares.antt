@@ -43,8 +43,8 @@ use Rattle.media_laws.proofs.Copies.CallTags.{shown_tag}
 
 -- ---- which calls
 
--- the tag is that of its leg to the callee, in which it has another dialog than that of this 2xx, and it does not wait
--- for the request
+-- the tag is that of its leg to the callee, in which it has a dialog other than that of this 2xx, and it does not
+-- wait for the request
 pub record IsOtherDialog (asked : Parts) (r : Response) (c : StandingCall) : Type 0 where
   pub callee : tag_text asked.from.params ≡ c.callee_tag
   pub differ : c.call.caller.id.ours ≢ c.callee_tag

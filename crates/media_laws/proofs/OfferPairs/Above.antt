@@ -1,5 +1,5 @@
 -- An offer inside a call has a number above those that were taken in its dialog (RFC 3261 section 12.2.2), so that none
--- of the answers of before is to it.
+-- of the earlier answers is to it.
 use Rattle.std.proofs.Common.{◌≡◌, ◌∙◌, ℕ, Bool, true, false, cond, List, Option, Some, None, refl, sym, subst, arith}
 use Rattle.std.specs.Prelude.{slice_get}
 use Rattle.std.proofs.lemmas.Bool.{ltb-true}
@@ -85,7 +85,7 @@ rule_fits standing r = of_caller standing r (place_by_end Caller r.parts standin
 pub offers_above : (standing : List StandingCall) (r : Request) (place : ℕ) (end : End) → dialog_rule standing r ≡ rules.Offers place end → IsAboveAt standing r place end
 offers_above standing r place end rule = subst (FitsRule standing r) rule (rule_fits standing r)
 
--- ---- no answer of before is to it
+-- ---- no earlier answer is to it
 
 no_old : (last : Option ℕ) (m n : ℕ) → IsOld last m → IsAbove last n → m ≡ n → ⊥
 no_old None m n old above e = absurd old

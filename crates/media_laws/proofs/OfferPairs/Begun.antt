@@ -34,7 +34,7 @@ use Rattle.media_laws.specs.Shows.{Went}
 
 -- ---- what asks among what is sent
 
--- after what is plain one alone asks
+-- after what is plain, only one asks
 only_last : (before : List Message) (went m : Message) (i : ℕ) → AllOf (λ m. IsTrue (is_plain offering m)) before → slice_get (before ++ went ∷ []) i ≡ Some m → IsTrue (asks offering m) → m ≡ went
 only_last [] went m zero plain there asks = sym (same_Some went m there)
 only_last [] went m (suc i) plain there asks = absurd (none-some m there)
@@ -51,7 +51,7 @@ went_alone law sends changes ms before went are begun whole plain u among offers
     let last : part.1 ≡ went = only_last before went part.1 part.0 plain (subst (λ l. slice_get l part.0 ≡ Some part.1) whole part.2) (subst (λ (m : Message). IsTrue (asks offering m)) is asked.2.asks) in
     subst (IsRequestOf u.parts) (is ∙ last) asked.3
 
--- ---- one of before is not the open offer
+-- ---- an earlier one is not the open offer
 
 all_among : (P : Transaction → Type 0) (xs : List Transaction) (t : Transaction) → All P xs → IsAmong xs t → P t
 all_among P [] t all among = absurd among

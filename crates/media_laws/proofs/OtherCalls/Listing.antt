@@ -1,4 +1,4 @@
--- The list of the server's calls beside that of a trace, as one call of it changes.
+-- The list of the server's calls next to that of a trace, as one call of it changes.
 use Rattle.std.proofs.Common.{◌≡◌, ◌∙◌, ℕ, zero, suc, true, false, List, [], ◌∷◌, ◌++◌, Some, refl, ap, sym, subst, inl, inr}
 use Rattle.std.specs.Prelude.{slice_get, slice_set, remove}
 use Rattle.std.specs.List.{All}

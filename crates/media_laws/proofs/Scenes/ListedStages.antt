@@ -73,7 +73,7 @@ legs_there s e w c description n d sound left has shows fits stands answered = �
     let old = dialog_there c n end has stands answered in
     leg_in s e w c description d end old.0 sound left shows fits old.1
 
--- before that none is asked for but that of a first 2xx
+-- before that, only that of a first 2xx is needed
 none_asked : (rung : Bool) (scene : Scene) (d : Call) (signal : Signal) → signal ≢ signals.UnfitAnswer → HasLegs (stages.Asked rung) scene d signal
 none_asked rung scene d (signals.Offer end method) other = tt
 none_asked rung scene d (signals.Provisional status) other = tt

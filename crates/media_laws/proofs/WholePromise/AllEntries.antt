@@ -70,7 +70,7 @@ with_calls s calls made = record {
 same_tokens : (s : Contents) → s.tokens + 0 ≡ s.tokens
 same_tokens s = omega arith
 
--- what has no effect leaves the agent as it was, but for the moment and the tally
+-- what has no effect leaves the agent as it was, except for the moment and the tally
 same_office : (s : Contents) (now : ℕ) (why : Taken) → office (after_event s now (of_plan (office s) (nothing why))) ≡ office s
 unfolding after_event
 same_office s now why =

@@ -49,7 +49,7 @@ use Rattle.media_laws.specs.Living.{ListsLive}
 use Rattle.media_laws.proofs.WholePromise.QuietCalls.{each_settles}
 use Rattle.media_laws.proofs.WholePromise.Sessions.{are_traced}
 
--- what comes after the trace and is served is promised
+-- what stands after the trace and is served is promised
 pub record PromiseLaws : Type 0 where
   pub served : (s : Office) (calls : List Call) → KnowsServing s → AreTraced dialog_with_caller s.calls.calls calls → AreServed s.range.ip (trace_table s.calls.pool) (holder_by dialog_with_caller s) calls
   pub promised : (server : List ℕ) (table : ℕ → Option Hop) (holder : ℕ → Option Dialog) (calls : List Call) (n : ℕ) (t : List Datagram) → Stands offering calls n t → AreServed server table holder calls
@@ -63,7 +63,7 @@ promise_kept laws promises s begun sent t calls k h = record {
       (promises.served s calls h.known.serving (are_traced s begun t calls (laws.staged s h.known.serving) h.listed));
 }
 
--- ---- an agent that stands
+-- ---- an agent that stands after a trace
 
 pub stands_new : Laws → (c : Config) (s : Contents) → IsConfigured c → IsNew c s → AgentStands s [] 0
 stands_new laws c s is new = ([], [], ([], new_upheld laws c s is new))

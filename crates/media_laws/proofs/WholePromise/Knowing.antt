@@ -119,7 +119,7 @@ module _ (laws : Laws) (s : Contents) (e : Event) (n : ℕ) (begun : List Transa
     serving = laws.serves s e k.serving;
   }
 
-  -- the office afterwards, beside that of before
+  -- the office afterwards, next to the earlier one
   pub is_after : IsAfter (office s) (office (after s e)) (begun ++ begun_of (row s e).plan.changes)
   is_after = record {
     numbers = after_numbers s e begun k.tokens k.waiting k.numbers;

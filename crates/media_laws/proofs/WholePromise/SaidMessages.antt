@@ -1,4 +1,4 @@
--- What an agent that stands sends is messages by the grammar.
+-- What an agent that stands after a trace sends is messages by the grammar.
 use Rattle.std.proofs.Common.{◌≡◌, List, [], ◌∷◌, ◌++◌, refl, sym, subst, ◌∙◌}
 use Rattle.std.specs.List.{All}
 use Rattle.std.proofs.lemmas.List.{append_cancel_left}

@@ -54,7 +54,7 @@ AckIsOwn ack = IsOwnDatagram ack.sent
 abbrev pub AnswerIsOwn : StandingCall → Type 0
 AnswerIsOwn c = AgainIsOwn c.answer
 
--- of the requests, the tags, and of what would are sent again
+-- of the requests, the tags, and of what would be sent again
 pub record IsReady (s : Office) : Type 0 where
   pub askers : KnowsAskers s
   pub tags : All (HasMadeTags s.tokens) s.calls.calls

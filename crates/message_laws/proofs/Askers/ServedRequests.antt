@@ -102,7 +102,7 @@ line_waits (machine.OtherServer state) input h o = other_waits state input h o
 
 -- ---- a transaction
 
--- it stands with these parts, and has sent no final response
+-- it is live with these parts, and has sent no final response
 pub record StandsAs (parts : Parts) (slots : List (Option Transaction)) (id : ℕ) : Type 0 where
   pub transaction : Transaction
   pub stands : at slots id ≡ Some transaction

@@ -31,7 +31,7 @@ use Rattle.message_laws.proofs.Askers.ServedRequests.{SpareAll, spare_joined}
 use Rattle.message_laws.proofs.Askers.Speaking.{FitActions, FitsAction, IsEarly}
 use Rattle.message_laws.proofs.Askers.SpokenLines.{is_final, says_final}
 
--- where this is the request's transaction, no final response is said to it
+-- where this is the request's transaction, no final response is sent to it
 abbrev pub SparedBy : ℕ → Option Asker → Bool → Type 0
 SparedBy id None final = Unit {0}
 SparedBy id (Some a) final = id ≡ a.id → final ≡ false

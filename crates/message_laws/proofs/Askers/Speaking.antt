@@ -130,7 +130,7 @@ abbrev pub CanSayIf : Option Asker → Type 0
 CanSayIf None = Unit {0}
 CanSayIf (Some a) = CanSayTo a
 
--- one that gets a 200 without a description is no INVITE
+-- one that gets a 200 without a description is not an INVITE
 abbrev pub CanOkay : Option Asker → Type 0
 CanOkay None = Unit {0}
 CanOkay (Some a) = CanSayTo a × (pointwise nat_eq a.parts.now.cseq.method (codes "INVITE") ≡ false)

@@ -1,4 +1,4 @@
--- A BYE in a leg of a live call has a greater number than the INVITEs and UPDATEs of before.
+-- A BYE in a leg of a live call has a greater number than the earlier INVITEs and UPDATEs.
 use Rattle.std.proofs.Common.{◌≡◌, ◌∙◌, ◌<◌, ◌≤◌, ◌^◌, ℕ, ◌+◌, Bool, true, false, cond, List, [], ◌∷◌, Option, Some, None, refl, ap, sym, subst, inl, inr, arith}
 use Rattle.std.specs.Prelude.{slice_get}
 use Rattle.std.specs.List.{All}
@@ -45,7 +45,7 @@ use Rattle.message_laws.proofs.AwaitedOffers.Leaving.{IsByeIn, IsByeTo, ack_alon
 use Rattle.message_laws.proofs.Messages.ResponseViews.{IsForked}
 use Rattle.message_laws.proofs.AwaitedOffers.Tagged.{asked_at, differs_at, has_tag_of, leg_tag, named_place, scene_dialog, tag_of_end}
 
--- so it is for changes that find these calls, where this many tokens were made
+-- the same holds for changes that find these calls, where this many tokens were made
 abbrev pub ByesAbove : ℕ → List StandingCall → List Entry → Type 0
 ByesAbove made calls changes = (t : Transaction) → OpensIn t changes → (place : ℕ) (c : StandingCall) → slice_get calls place ≡ Some c → IsByeOf c t → (v : Transaction) → IsMade made (from_tag v)
     → All (WasCounted v) calls → from_tag v ≡ from_tag t → v.parts.cseq.number < t.parts.cseq.number

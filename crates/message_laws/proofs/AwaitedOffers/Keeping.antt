@@ -38,7 +38,7 @@ target_media Callee target c = refl
 pub beside_media : (c : StandingCall) (kept : Beside) → (beside kept c).call.media ≡ c.call.media
 beside_media = beside_same (λ c. c.media) dialog_media target_media
 
--- ---- a call whose open offer is that of before
+-- ---- a call whose open offer is the earlier one
 
 -- where it waits for a final response now, it waited for it before
 pub record CameFrom (c d : StandingCall) (n : stage.Standing) : Type 0 where

@@ -62,7 +62,7 @@ pub record Waits (s : Office) (x : Effect) : Type 0 where
       → All (FitsCall u) x.calls.standing.calls
   pub began : (t : Transaction) → OpensIn t x.plan.changes → IsOffering t → All (FitsCall t) x.calls.standing.calls
   pub one : OneOffers x.plan.changes
-  -- one whose wait is over stays counted, and what begins has a greater number than those of before in its leg
+  -- one whose wait is over stays counted, and what begins has a greater number than the earlier ones in its leg
   pub counted : (t : Transaction) → waits t.state ≡ false → IsMade s.tokens (from_tag t) → All (FitsCall t) s.calls.calls → All (FitsCall t) x.calls.standing.calls
   pub above : (t : Transaction) → OpensIn t x.plan.changes → IsOffering t → (v : Transaction) → IsMade s.tokens (from_tag v) → All (FitsCall v) s.calls.calls → from_tag v ≡ from_tag t
       → v.parts.cseq.number < t.parts.cseq.number

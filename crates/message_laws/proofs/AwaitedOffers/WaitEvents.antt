@@ -50,7 +50,7 @@ awaited_by : (s : Contents) → KnowsWaiting (office s) → (now : ℕ) (x : Eff
 awaited_by s k now x w id u e offers (stayed t there later) = w.stayed now id t u there e later (offering_before t u later offers)
 awaited_by s k now x w id u e offers (began t opens later) = later_all t u x.calls.standing.calls later (w.began t opens (offering_before t u later offers))
 
--- a number that is greater than those of before is none of them
+-- a number that is greater than the earlier ones is none of them
 fresh_after : (s : Contents) → KnowsTokens (office s) → KnowsWaiting (office s) → (x : Effect) → Waits (office s) x → AreFresh s.table.slots x.plan.changes
 fresh_after s tokens k x w t opens offers id v there offers_v same =
     omega (arith, same.number, w.above t opens offers v (own_at s.tokens s.table.slots id v tokens.slots there offers_v.client).tag (k.awaited id v there offers_v) same.tag)

@@ -90,11 +90,11 @@ new_untagged made c tag new old (inr is) = old_and_new made new.salt new.second 
 later_tag : (t u : Transaction) → IsLater t u → from_tag u ≡ from_tag t
 later_tag t u later = ap (λ (p : Parts). tag_text p.from.params) later.parts
 
--- a request of before has no tag of the new call
+-- an earlier request has no tag of the new call
 old_fits : (made : ℕ) (c : StandingCall) (t u : Transaction) → HasNewTags made c → IsLater t u → IsMade made (from_tag t) → FitsCall u c
 old_fits made c t u new later tag = λ has. absurd (new_untagged made c (from_tag u) new (subst (IsMade made) (sym (later_tag t u later)) tag) (tagged (from_tag u) c has))
 
--- and the new one has none of a call of before
+-- and the new one has none of an earlier call
 new_fits : (made salt count : ℕ) (t : Transaction) (c : StandingCall) → made < count → count < 2 ^ 64 → from_tag t ≡ token salt count → HasMadeTags made c → FitsCall t c
 new_fits made salt count t c new few is h = λ has. absurd (old_and_new made salt count (from_tag t) (made_tag made c (from_tag t) h (tagged (from_tag t) c has)) new few is)
 

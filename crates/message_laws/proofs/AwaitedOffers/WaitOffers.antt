@@ -132,7 +132,7 @@ passed_by made calls place x c step d t p has opens leg was =
     let leg_now : has_leg theirs (Some p.on.next) ≡ true = subst (λ s. has_leg theirs s ≡ true) p.stands (subst (λ y. has_leg (dialog_of y d.call) d.call.standing ≡ true) end leg) in
     not_last number p.on.next (dialog_of (other x) c.call) theirs p.on.not_asked before keeps last leg_now
 
--- those of before in its leg have lower numbers
+-- the earlier ones in its leg have lower numbers
 offer_above : (made : ℕ) (calls : List StandingCall) (place : ℕ) (x : End) (c : StandingCall) (step : Step) (d : StandingCall) (t v : Transaction) (leg : Dialog) → Passing made calls place x c step d
     → dialog_of (other x) c.call ≡ Some leg → IsOfferIn leg t → All (FitsCall v) calls → from_tag v ≡ from_tag t → v.parts.cseq.number < t.parts.cseq.number
 offer_above made calls place x c step d t v leg p at_leg is each same =

@@ -33,7 +33,7 @@ pub record IsAsked (asked : Parts) (c : StandingCall) : Type 0 where
   pub tag : has_tag (tag_text asked.from.params) c ≡ true
   pub waits : is_open asked c ≡ true
 
--- the call that sent the request, if one is live, has another dialog than that of this 2xx, or none yet
+-- the call that sent the request, if one is live, has a dialog other than that of this 2xx, or none yet
 abbrev pub IsForked : List StandingCall → Parts → Response → Type 0
 IsForked calls asked r = (place : ℕ) (c : StandingCall) → asked_place calls asked ≡ Some place → slice_get calls place ≡ Some c → is_of_known_dialog asked r c (asked_end asked c) ≡ false
 

@@ -73,7 +73,7 @@ starts_own_by made r to false own = λ client. own
 starts_own : (made : ℕ) (r : Request) (to : Addr) → IsOwnRequest made r.parts → EntersOwn made (start_of r to)
 starts_own made r to own = starts_own_by made r to (is_method (codes "ACK") r.parts) own
 
--- what is dressed begins own requests alone, where this many tokens were made before it
+-- what is dressed begins only own requests, where this many tokens were made before it
 abbrev pub OwnMade : ℕ → Dressed → Type 0
 OwnMade n d = EnterOwn (n + d.made) d.changes
 

@@ -55,7 +55,7 @@ alone_quiet s r now reply one is = fits_quiet r reply one (alone_fits s r now re
 refused_is_none : (status : ℕ) → 300 ≤ status → is_success (kinds.Response status) ≡ false
 refused_is_none status low = and_right (nat_le 200 status) (nat_lt status 300) (le-ltb status 300 low)
 
--- is no 2xx
+-- is not a 2xx
 pub refusal_quiet : (parts : Parts) (reason : Reason) → IsQuietStatus parts (status reason)
 refusal_quiet parts reason = inl (refused_is_none (status reason) (reason_refuses reason).0)
 

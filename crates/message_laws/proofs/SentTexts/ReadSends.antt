@@ -57,7 +57,7 @@ use Rattle.message_laws.specs.SoundScenes.{IsSoundRequest}
 use Rattle.message_laws.proofs.StandingCalls.ClientSlots.{client_at}
 use Rattle.message_laws.proofs.SentTexts.ReadReplies.{one_read}
 
--- ---- what would are sent again reads back
+-- ---- what would be sent again reads back
 
 abbrev pub ReadsIf : Option (List ℕ) → Type 0
 ReadsIf None = Unit {0}

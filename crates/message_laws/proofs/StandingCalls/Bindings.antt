@@ -243,7 +243,7 @@ entries_bound user bindings (l ∷ ls) other h all = by_user (is_for user l) (is
     by_user false true e k more = rw e k
     by_user false false e k more = rw e (more k)
 
--- who is on a list of users has the bindings that it had, or none
+-- a user on a list of users has the bindings that it had, or none
 pub kept_bound : (entries : List UserBindings) (users : List (List ℕ)) → ((user : List ℕ) → All IsBound (bindings_of entries user)) → (user : List ℕ) → All IsBound (bindings_of (kept_entries entries users) user)
 kept_bound entries users each user = subst (All IsBound) (sym (kept-bindings entries users user)) (by_known (list_any (λ u. pointwise nat_eq u user) users))
   where

@@ -82,7 +82,7 @@ request_within xs ys c w h n stands awaits leg =
 pub requests_within : (xs ys : List Transaction) (calls : List StandingCall) → Within xs ys → All (HasRequest xs) calls → All (HasRequest ys) calls
 requests_within xs ys calls w each = All-weaker (HasRequest xs) (HasRequest ys) (λ c. request_within xs ys c w) calls each
 
--- ---- a call whose open offer is that of before
+-- ---- a call whose open offer is the earlier one
 
 request_on : (c d : StandingCall) (n : stage.Standing) (t : Transaction) → StillOpen c d → CameFrom c d n → d.call.standing ≡ Some n → awaits_final n.stage ≡ true → IsOpenRequest c t → IsOpenRequest d t
 request_on c d n t still came stands awaits r =

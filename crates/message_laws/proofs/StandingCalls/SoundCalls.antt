@@ -1,4 +1,4 @@
--- A step of a call keeps its dialogs sound, but for their numbers, and so does what is put beside it.
+-- A step of a call keeps its dialogs sound, except for their numbers, and so does what is put beside it.
 use Rattle.std.proofs.Common.{◌≡◌, ℕ, Bool, true, false, cond, List, [], ◌∷◌, ◌++◌, Option, Some, None, option_map, refl}
 use Rattle.std.specs.Prelude.{slice_get}
 use Rattle.std.specs.List.{All}

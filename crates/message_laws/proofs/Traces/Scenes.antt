@@ -152,7 +152,7 @@ same_offer inputs.Repeat e = absurd (false≢true e)
 same_offer inputs.Wait e = absurd (false≢true e)
 same_offer inputs.Lifetime e = absurd (false≢true e)
 
--- ---- what is lent
+-- ---- what is borrowed
 
 lent_answer : (a : Option AskerValue) → CanSayTo a → CanSayIf (option_map lent_asker a)
 lent_answer None h = tt
