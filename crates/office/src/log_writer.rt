@@ -54,14 +54,14 @@ impl LogWriter {
         })
     }
 
-    /// Writes lines until the flag is set and none are left, or none could be written for a second after it was set.
+    /// Writes lines until the flag is set and none are left, or the stream gives up on finding room for them.
     pub(crate) fn run<R: Wait>(mut self, rt: &R, is_over: &AtomicBool) {
         for _ in rt.forever() {
             // What was passed on before the flag was set is there now.
             let is_last = is_over.load(Ordering::SeqCst);
-            let (block, stream) = (self.block.as_mut_slice(), &mut self.stream);
-            let of_events = write_all(rt, &mut self.events, stream, block, is_over);
-            let of_sending = write_all(rt, &mut self.sending, stream, block, is_over);
+            let block = self.block.as_mut_slice();
+            let of_events = write_all(rt, &mut self.events, &mut self.stream, block, is_over);
+            let of_sending = write_all(rt, &mut self.sending, &mut self.stream, block, is_over);
             if is_last {
                 return;
             }
