@@ -18,20 +18,22 @@ pub(crate) struct LogWriter {
     block: Vec<u8>,
 }
 
-/// Writes everything that is there: whole lines, since lines are passed on whole. Returns whether there were any.
+/// Writes everything that is there: whole lines, since lines are passed on whole. A block is taken only when the stream
+/// has room, so lines wait in the ring until then. Returns whether there were any.
 fn write_all<R: Wait>(
     rt: &R,
     ring: &mut Consumer<u8>,
     stream: &mut ErrorStream,
     block: &mut [u8],
+    is_over: &AtomicBool,
 ) -> bool {
     let mut are_any = false;
     for _ in rt.forever() {
-        let count = ring.pop_partial_slice(block);
-        if count == 0 {
+        if ring.is_empty() || !stream.wait_for_room(rt, is_over) {
             return are_any;
         }
-        stream.write(&block[..count]);
+        let count = ring.pop_partial_slice(block);
+        stream.write(rt, &block[..count], is_over);
         are_any = true;
     }
     unreachable!()
@@ -52,14 +54,14 @@ impl LogWriter {
         })
     }
 
-    /// Writes lines until the flag is set and none are left.
+    /// Writes lines until the flag is set and none are left, or the stream gives up on finding room for them.
     pub(crate) fn run<R: Wait>(mut self, rt: &R, is_over: &AtomicBool) {
         for _ in rt.forever() {
             // What was passed on before the flag was set is there now.
             let is_last = is_over.load(Ordering::SeqCst);
             let block = self.block.as_mut_slice();
-            let of_events = write_all(rt, &mut self.events, &mut self.stream, block);
-            let of_sending = write_all(rt, &mut self.sending, &mut self.stream, block);
+            let of_events = write_all(rt, &mut self.events, &mut self.stream, block, is_over);
+            let of_sending = write_all(rt, &mut self.sending, &mut self.stream, block, is_over);
             if is_last {
                 return;
             }

@@ -25,7 +25,9 @@ use crate::disk::Disk;
 use crate::shared::Shared;
 use crate::telephony::Telephony;
 use server::{Asked, CommandError, Ending, command, run};
+use sockets::LastWords;
 use std::alloc::{AllocError, Global};
+use std::fmt::Write;
 use std::fs::Files;
 use std::net::Net;
 use std::process::ExitCode;
@@ -95,19 +97,20 @@ fn main(rt: HostRuntime) -> ExitCode {
         path: None,
         request: None,
         refusal: None,
+        last_words: LastWords::new(&rt),
     };
     let ending = ending(&rt, &mut telephony).unwrap_or_else(Ending::Refused);
     if let Some(help) = ending.help() {
         let _ = print!(rt; "{help}");
     }
     if let Some(words) = ending.words() {
-        let _ = eprintln!(rt; "{words}");
+        let _ = writeln!(telephony.last_words, "{words}");
     }
     if let Some(reason) = ending.reason() {
-        let _ = eprintln!(rt; "{reason}");
+        let _ = writeln!(telephony.last_words, "{reason}");
     }
     if let Some(refusal) = telephony.refusal {
-        let _ = eprintln!(rt; "{refusal}");
+        let _ = writeln!(telephony.last_words, "{refusal}");
     }
     ExitCode::from(ending.status())
 }

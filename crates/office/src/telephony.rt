@@ -26,7 +26,7 @@ use page_server::PageServer;
 use relay::{Board, Unopened, Worker, serve_media};
 use rtrb::RingBuffer;
 use server::{Host, HostFault};
-use sockets::{ErrorStream, MediaSockets, Sockets, Unbound, bind, worker_count, workers_of};
+use sockets::{ErrorStream, LastWords, MediaSockets, Sockets, Unbound, bind, worker_count, workers_of};
 use std::alloc::{AllocError, Global};
 use std::fs::Files;
 use std::net::Net;
@@ -61,6 +61,7 @@ pub(crate) struct Telephony<'a, R> {
     pub(crate) request: Option<(Snapshot<Config>, Option<u64>)>,
     /// Why no sockets were opened, if none were.
     pub(crate) refusal: Option<Refusal>,
+    pub(crate) last_words: LastWords<'a, R>,
 }
 
 /// All sockets of a configuration, or why there are none.
@@ -151,26 +152,17 @@ fn outcome(end: End, refused: bool) -> Result<(), HostFault> {
 }
 
 /// Writes a line that says how events were answered.
-fn report<R: Eprint>(rt: &R, alloc: Global, tally: Tally) {
+fn report<R: Wait>(last_words: &mut LastWords<'_, R>, alloc: Global, tally: Tally) {
     if let Ok(line) = counts_line(alloc, tally) {
-        let _ = eprint!(rt; "{line}");
+        last_words.put(line.as_bytes());
     }
 }
 
 /// The log: the end for the lines of events, that for those of the socket for SIP, and what writes both.
-fn open_log<R: Net>(rt: &R, alloc: Global) -> Result<(LogLines, LogLines, LogWriter), HostFault> {
-    let stream = ErrorStream::new(rt, alloc).map_err(host_fault)?;
-    rings_to(alloc, stream).map_err(|_| HostFault::OutOfMemory)
-}
-
-/// The rings to what writes to this stream.
-fn rings_to(
-    alloc: Global,
-    stream: ErrorStream,
-) -> Result<(LogLines, LogLines, LogWriter), AllocError> {
+fn open_log(alloc: Global) -> Result<(LogLines, LogLines, LogWriter), AllocError> {
     let (events, events_out) = RingBuffer::new(alloc, ROOM_OF_EVENTS)?;
     let (sending, sending_out) = RingBuffer::new(alloc, ROOM_OF_SENDING)?;
-    let writer = LogWriter::new(alloc, events_out, sending_out, stream)?;
+    let writer = LogWriter::new(alloc, events_out, sending_out, ErrorStream::new())?;
     Ok((
         LogLines::new(alloc, events),
         LogLines::new(alloc, sending),
@@ -401,7 +393,7 @@ impl<R: Net + Files + Clock + Threads + Wait + Sync + Shared + Print + Eprint + 
         };
         let mut watch = Watch::new(self.rt).map_err(host_fault)?;
         let start = self.rt.since_1970().map_err(host_fault)?;
-        let (events, sending, writer) = open_log(self.rt, alloc)?;
+        let (events, sending, writer) = open_log(alloc).map_err(|_| HostFault::OutOfMemory)?;
         let second = start.as_secs();
         let (desk, page) = page_of(alloc, server, second).map_err(|_| HostFault::OutOfMemory)?;
         let users = user_desk(alloc, self.path.take(), config)?;
@@ -436,7 +428,7 @@ impl<R: Net + Files + Clock + Threads + Wait + Sync + Shared + Print + Eprint + 
             page,
             turns,
         );
-        report(self.rt, alloc, tally);
+        report(&mut self.last_words, alloc, tally);
         served
     }
 }

@@ -1,1 +1,3 @@
+pub mod Parts
+pub mod Turns
 pub mod Walks

@@ -1,3 +1,6 @@
+pub mod Answers
+pub mod ErrorStreams
 pub mod Logs
 pub mod Refusals
 pub mod Traffic
+pub mod Waits

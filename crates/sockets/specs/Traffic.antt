@@ -5,17 +5,18 @@ use Rattle.configuration.specs.declared.config.Config.{Config}
 use Rattle.relay.specs.Limits.{max_viewers}
 use Rattle.sockets.specs.Logs.{Datagram}
 
--- what was taken, what was asked to be sent and what of it went, the bytes of room that the last receive was given, and
--- whether the last call failed
+-- what was taken, what was asked to be sent and what of it went, the milliseconds that the system was given at each wait,
+-- the bytes of room that the last receive was given, and whether the last call failed
 pub record Traffic : Type 0 where
   pub taken : List Datagram
   pub asked : List Datagram
   pub sent : List Datagram
+  pub waited : List ℕ
   pub room : ℕ
   pub failed : Bool
 
 abbrev pub no_traffic : Traffic
-no_traffic = record { taken = []; asked = []; sent = []; room = 0; failed = false }
+no_traffic = record { taken = []; asked = []; sent = []; waited = []; room = 0; failed = false }
 
 -- a datagram at the socket for SIP, whose one port is not noted
 abbrev pub at_sip : Addr → List ℕ → Datagram

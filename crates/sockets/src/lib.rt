@@ -4,8 +4,12 @@
 
 mod addresses;
 mod error_stream;
+mod last_call;
+mod last_words;
 mod log;
 mod media;
+mod number_log;
+mod part_log;
 mod ports;
 mod ready;
 mod refusals;
@@ -13,9 +17,11 @@ mod room;
 mod sip_socket;
 mod tries;
 mod unbound;
+mod waiter;
 mod workers;
 
 pub use error_stream::ErrorStream;
+pub use last_words::LastWords;
 pub use media::MediaSockets;
 pub use ports::{RelaySockets, Sockets, bind, worker_count};
 pub use refusals::{Refusal, Refusals};

@@ -1,7 +1,9 @@
 //! The sockets of the relay ports, as one worker has them.
 
 ghost use Rattle.std.specs.Prelude.{◌≡◌, ◌≤◌, length, IfOk, IfSome};
+ghost use Rattle.std.specs.Result.{is_err};
 
+use crate::last_call::LastCall;
 use crate::log::Log;
 use crate::ready::Ready;
 use crate::sip_socket::send_all;
@@ -21,12 +23,12 @@ pub struct MediaSockets {
     /// The first relay port.
     pub(crate) first: u16,
     pub(crate) ready: Ready,
+    pub(crate) last: LastCall,
     pub(crate) taken: Log,
     pub(crate) asked: Log,
     pub(crate) sent: Log,
     /// The room that the last receive was given. Only clauses read it.
     pub(crate) room: usize,
-    pub(crate) failed: bool,
 }
 
 impl Model for MediaSockets {
@@ -34,7 +36,7 @@ impl Model for MediaSockets {
 
     ghost Value = { Traffic };
 
-    ghost view = { λ s. record { taken = s.taken.entries; asked = s.asked.entries; sent = s.sent.entries; room = s.room; failed = s.failed } };
+    ghost view = { λ s. record { taken = s.taken.entries; asked = s.asked.entries; sent = s.sent.entries; waited = s.ready.waiter.waited.entries; room = s.room; failed = s.last.failed } };
 }
 
 impl MediaSockets {
@@ -44,9 +46,12 @@ impl MediaSockets {
         ensures taken { self.new.taken ≡ self.old.taken }
         ensures asked { self.new.asked ≡ self.old.asked }
         ensures sent { self.new.sent ≡ self.old.sent }
+        ensures waited { self.new.waited ≡ self.old.waited }
         ensures room { self.new.room ≡ self.old.room }
+        ensures failed { self.new.failed ≡ is_err result }
     {
-        match self.ready.take(self.sockets.as_slice(), buffer)? {
+        let sockets = self.sockets.as_slice();
+        match self.ready.take(sockets, buffer, &mut self.last)? {
             None => Ok(None),
             Some((place, length)) => match u16::try_from(place) {
                 Ok(above) => Ok(Some((self.first.wrapping_add(above), length))),
@@ -79,46 +84,30 @@ impl MediaSocket for MediaSockets {
         self.room = buffer.len();
         match self.take(buffer) {
             Ok(Some((port, length))) => {
-                self.failed = false;
                 self.taken.note(port, &[], 0, &buffer[..length]);
                 Ok(Some((port, length)))
             }
-            Ok(None) => {
-                self.failed = false;
-                Ok(None)
-            }
-            Err(_) => {
-                self.failed = true;
-                Err(SocketFault)
-            }
+            Ok(None) => Ok(None),
+            Err(_) => Err(SocketFault),
         }
     }
 
     fn send(&mut self, from: u16, to: Addr, bytes: &[u8]) -> Result<(), SocketFault> {
         self.asked.note(from, &to.ip, to.port, bytes);
-        match self.send_from(from, to, bytes) {
+        let answer = self.send_from(from, to, bytes);
+        match self.last.take(answer) {
             Ok(()) => {
-                self.failed = false;
                 self.sent.note(from, &to.ip, to.port, bytes);
                 Ok(())
             }
-            Err(_) => {
-                self.failed = true;
-                Err(SocketFault)
-            }
+            Err(_) => Err(SocketFault),
         }
     }
 
     fn wait(&mut self) -> Result<(), SocketFault> {
-        match self.ready.wait() {
-            Ok(()) => {
-                self.failed = false;
-                Ok(())
-            }
-            Err(_) => {
-                self.failed = true;
-                Err(SocketFault)
-            }
+        match self.last.take(self.ready.wait()) {
+            Ok(()) => Ok(()),
+            Err(_) => Err(SocketFault),
         }
     }
 }

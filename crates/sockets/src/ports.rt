@@ -5,15 +5,17 @@ ghost use Rattle.relay.specs.Limits.{max_viewers};
 ghost use Rattle.sockets.specs.Traffic.{no_traffic, relay_ports, worker_count};
 
 use crate::addresses::to_system;
+use crate::last_call::LastCall;
 use crate::log::Log;
 use crate::room::ask_for_room;
 use crate::sip_socket::SipSocket;
 use crate::tries::Tries;
 use crate::unbound::Unbound;
+use crate::waiter::Waiter;
 use configuration::Config;
 use libc::net::{EPOLL_CTL_ADD, EPOLLIN};
+use mio::Poll;
 use mio::net::UdpSocket;
-use mio::{Events, Poll};
 use sip_uri::Addr;
 use std::alloc::Global;
 use std::io;
@@ -84,14 +86,13 @@ fn bind_sip<R: Net>(rt: &R, alloc: Global, config: &Config) -> Result<SipSocket,
     watch(&poll, &socket, 0)?;
     Ok(SipSocket {
         socket,
-        poll,
-        events: Events::with_capacity(alloc, 1)?,
+        waiter: Waiter::new(alloc, poll, 1)?,
         tries: Tries::new(),
+        last: LastCall::new(),
         taken: Log::new(),
         asked: Log::new(),
         sent: Log::new(),
         room: 0,
-        failed: false,
     })
 }
 

@@ -3,6 +3,7 @@
 ghost use Rattle.std.specs.Prelude.{◌≡◌, map, IfOk};
 ghost use Rattle.sockets.specs.Traffic.{no_traffic};
 
+use crate::last_call::LastCall;
 use crate::log::Log;
 use crate::media::MediaSockets;
 use crate::ports::RelaySockets;
@@ -28,11 +29,11 @@ fn worker_of(
         sockets: Arc::try_clone(sockets)?,
         first,
         ready: Ready::new(alloc, poll, sockets.len())?,
+        last: LastCall::new(),
         taken: Log::new(),
         asked: Log::new(),
         sent: Log::new(),
         room: 0,
-        failed: false,
     };
     match Worker::new(alloc, viewer, socket) {
         Ok(worker) => Ok(worker),
