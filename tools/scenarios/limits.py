@@ -11,9 +11,9 @@ NO_MEMORY, NOT_LOADED = 6, (1, 127, -9, -11)
 PROCESSES = [f"--nproc={most}" for most in (1, 2, 3, 4)]
 MEMORY = [f"--as={most << 20}" for most in (6, 8, 12, 16, 24, 32, 48)]
 # The exit status if no telephones can be served. Two workers need these descriptors: two sockets for each pair, one for
-# SIP, one with which each worker, the signalling and the log wait, the three standard streams, and one to spare.
+# SIP, one with which each worker and the signalling wait, the three standard streams, and one to spare.
 NO_SOCKET, WORKERS = 5, 2
-NEEDED = 2 * PAIRS + 1 + WORKERS + 2 + 3 + 1
+NEEDED = 2 * PAIRS + 1 + WORKERS + 1 + 3 + 1
 
 
 def serve_within(program, limit):

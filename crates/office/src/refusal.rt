@@ -49,13 +49,13 @@ fn descriptor_limit<R: Files + AllocGlobal>(rt: &R) -> Option<u64> {
 /// How many descriptors the page takes: its socket, what waits for it, and its connections.
 const FOR_THE_PAGE: u64 = 34;
 
-/// A socket for SIP and one for each relay port, what each thread waits with, including that of the log, the standard
-/// streams, and one to spare.
+/// A socket for SIP and one for each relay port, what the signalling and each worker wait with, the standard streams,
+/// and one to spare.
 fn descriptors_needed(config: &Config) -> u64 {
     u64::from(config.relay_pairs)
         .saturating_mul(2)
         .saturating_add(u64::from(config.workers))
-        .saturating_add(7)
+        .saturating_add(6)
         .saturating_add(if config.status.is_some() {
             FOR_THE_PAGE
         } else {
