@@ -26,7 +26,9 @@ use page_server::PageServer;
 use relay::{Board, Unopened, Worker, serve_media};
 use rtrb::RingBuffer;
 use server::{Host, HostFault};
-use sockets::{ErrorStream, LastWords, MediaSockets, Sockets, Unbound, bind, worker_count, workers_of};
+use sockets::{
+    ErrorStream, LastWords, MediaSockets, Sockets, Unbound, bind, worker_count, workers_of,
+};
 use std::alloc::{AllocError, Global};
 use std::fs::Files;
 use std::net::Net;

@@ -146,7 +146,8 @@ impl ErrorStream {
         let part = first_of(left, MAX_PART);
         let count = match usize::try_from(libc::write(DESCRIPTOR, part)) {
             Ok(count) => count,
-            Err(_) if is_of_nothing(io::Error::from_raw_os_error(os::errno()).kind()) => return None,
+            Err(_) if is_of_nothing(io::Error::from_raw_os_error(os::errno()).kind()) =>
+                return None,
             Err(_) => 0,
         };
         self.parts.note(part, count as u64);
