@@ -75,8 +75,8 @@ impl NoteLimit {
         }
     }
 
-    /// How many were left out, which are not counted again; none while this moment, in milliseconds, is in the second of
-    /// the last question. Takes no memory.
+    /// How many were left out, which are not counted again; none while this moment, in milliseconds, is in the second
+    /// of the last question. Takes no memory.
     pub fn take_left_out(&mut self, now: u64) -> u64
         ensures count { result ≡ (if now / 1000 == self.old.second then 0 else self.old.left_out) }
         ensures limit { self.new ≡ record self.old { left_out = self.old.left_out - result } }

@@ -14,8 +14,8 @@ wait_for_room = 50
 abbrev pub max_patience : ℕ
 max_patience = 15
 
--- the texts that were to be written, the parts of the last one, the milliseconds that the system was given at each wait,
--- and how many waits may still find no room once all is over
+-- the texts that were to be written, the parts of the last one, the milliseconds that the system was given at each
+-- wait, and how many waits may still find no room once all is over
 pub record Stream : Type 0 where
   pub texts : List (List ℕ)
   pub parts : List Part
@@ -25,8 +25,8 @@ pub record Stream : Type 0 where
 abbrev pub unused_stream : Stream
 unused_stream = record { texts = []; parts = []; waited = []; patience = max_patience }
 
--- the part that comes next, of which the system took this many bytes: the beginning of what is left of the text, as long
--- as a part may be
+-- the part that comes next, of which the system took this many bytes: the beginning of what is left of the text, as
+-- long as a part may be
 abbrev pub part_of : List ℕ → ℕ → Part
 part_of left count = record { bytes = take max_part left; taken = count }
 

@@ -5,8 +5,8 @@ use Rattle.configuration.specs.declared.config.Config.{Config}
 use Rattle.relay.specs.Limits.{max_viewers}
 use Rattle.sockets.specs.Logs.{Datagram}
 
--- what was taken, what was asked to be sent and what of it went, the milliseconds that the system was given at each wait,
--- the bytes of room that the last receive was given, and whether the last call failed
+-- what was taken, what was asked to be sent and what of it went, the milliseconds that the system was given at each
+-- wait, the bytes of room that the last receive was given, and whether the last call failed
 pub record Traffic : Type 0 where
   pub taken : List Datagram
   pub asked : List Datagram

@@ -27,8 +27,8 @@ const WAIT: u16 = 50;
 const MAX_PATIENCE: u32 = 15;
 
 /// The standard error of the process, which a thread writes to without its runtime. It is written only when it has
-/// room: a reader that is slow, or reads nothing, keeps nobody that has to end. Contracts see the texts that it was asked
-/// to write, and how the last one was written.
+/// room: a reader that is slow, or reads nothing, keeps nobody that has to end. Contracts see the texts that it was
+/// asked to write, and how the last one was written.
 #[derive(Drop)]
 pub struct ErrorStream {
     texts: Log,

@@ -81,8 +81,8 @@ impl WaitingUsers {
         self.lose();
     }
 
-    /// The users to be handed in at this moment, in milliseconds, if there are any. They may be handed in again a second
-    /// later.
+    /// The users to be handed in at this moment, in milliseconds, if there are any. They may be handed in again a
+    /// second later.
     pub fn hand_in(&mut self, now: u64) -> Result<Option<Texts<'static>>, AllocError>
         ensures due { IfOk result (λ users. users ≡ due_at now self.old) }
         ensures handed { IfOk result (λ users. self.new ≡ handed_in now self.old) }
