@@ -6,9 +6,9 @@ import re
 import socket
 import time
 
-from scenarios.office import TIMEOUT, USERS, answered_call, end, serving, speak
+from scenarios.office import USERS, answered_call, end, serving, speak
 from scenarios.pace import becomes, slowed
-from scenarios.users import SEEN, put_users
+from scenarios.users import put_users
 from telephones.blocking import expect
 
 # The datagrams of media in the call that the page shows, the caller's first.
@@ -18,8 +18,8 @@ SHOWN, CROWD = 1.5, 1_000
 # Seconds: in which a head that doesn't end is dropped, and a client that reads nothing of its response, which is after
 # five; and for which the client waits for that.
 LET_GO, WAITED = (4.5, 7), 10
-# The connections that the server has room for. With these users the page has so many bytes at least. Where clients have
-# such buffers and segments, in bytes, the systems take less than half of it before a client reads.
+# The connections that the server has room for. With these users the page has at least this many bytes. If clients have
+# these buffers and segments, in bytes, the systems take less than half of it before a client reads.
 PLACES, MANY_USERS, LONG = 32, [f"{number:03}".ljust(64, "x") for number in range(300)], 40_000
 BUFFER, SEGMENT = 1, 300
 REFUSED = {
@@ -30,7 +30,7 @@ REFUSED = {
 }
 
 
-def fetch(at, request, seconds=TIMEOUT):
+def fetch(at, request, seconds=WAITED):
     """What the page's server sends for these bytes, until it closes."""
     with socket.create_connection(at, timeout=slowed(seconds)) as made:
         made.sendall(request)
@@ -122,9 +122,17 @@ def ask_and_read_nothing(at):
 
 def is_served(at):
     """Whether the server has room for a client. If not, it closes the connection at once."""
-    with contextlib.suppress(ConnectionError):
+    with contextlib.suppress(ConnectionError, TimeoutError):
         return fetch(at, b"GET /metrics HTTP/1.1\r\n\r\n") != b""
     return False
+
+
+def length_of_page(at):
+    """How long the page is; 0 while none is made."""
+    with contextlib.suppress(ConnectionError, TimeoutError):
+        status, body = status_of(fetch(at, b"GET / HTTP/1.1\r\n\r\n"))
+        return len(body) if status == 200 else 0
+    return 0
 
 
 def outwait_readers(office, idle):
@@ -132,7 +140,7 @@ def outwait_readers(office, idle):
     again then. The server has this many descriptors when it has no client."""
     at = office.page
     put_users(office.config, [*USERS, *MANY_USERS])
-    expect(becomes(lambda: len(get(at, "/")) >= LONG, SEEN + SHOWN), f"the page has {LONG} bytes")
+    expect(becomes(lambda: length_of_page(at) >= LONG, WAITED), f"the page has {LONG} bytes")
     time.sleep(SHOWN)
     with contextlib.ExitStack() as kept:
         begun = time.monotonic()
@@ -142,7 +150,7 @@ def outwait_readers(office, idle):
         waited = time.monotonic() - begun
         expect(LET_GO[0] <= waited <= slowed(LET_GO[1] + SHOWN), f"who reads nothing is let go after {waited:.1f} s")
         expect(becomes(lambda: descriptors(office.process) <= idle, SHOWN), "all who read nothing are let go")
-    get(at, "/")
+    expect(becomes(lambda: length_of_page(at) >= LONG, WAITED), "the page is whole again")
 
 
 def crowd(at):
