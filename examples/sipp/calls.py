@@ -3,9 +3,9 @@
 
 usage: calls.py [--server IP:PORT] [--domain D] [--calls N] [--rate N] [--seconds S] [--packets N]
 
-Registers user 100 at 5061 and 101 at 5062, makes N calls from 100 to 101, so many a second, each of S seconds. When a call is answered each end
+Registers user 100 at 5061 and 101 at 5062, makes N calls from 100 to 101, R a second, each of S seconds. When a call is answered each end
 sends packets of 172 bytes, one each 20 ms, to where it was told. It checks that both scenarios end well for each call; that what an end
-sends arrives at one other end, all of it, and what that one sends arrives at the first; and behind the last call that nothing is sent on any
+sends arrives at one other end, all of it, and what that one sends arrives at the first; and after the last call that nothing is sent on any
 more. Then both users leave. Exit status 1 where a check fails. Only addresses of the loopback (127.) are taken."""
 import argparse
 import collections
@@ -135,7 +135,7 @@ def pairs_hold(media, calls):
 
 
 def bind(given, folder, faults, seconds, what):
-    """Both users ask for a binding of so many seconds, 0 for none."""
+    """Both users ask for a binding of this many seconds, 0 for none."""
     for end in CALLER, CALLEE:
         registers = sipp(given, folder, "register", end, ["-m", "1", "-key", "expires", str(seconds)])
         check(faults, f"{end[0]} {what}", registers.wait(40) == 0)
@@ -190,7 +190,7 @@ def main():
     taken = sum(sum(t.values()) for t in media.arrived.values())
     print(f"media: {taken} of {2 * given.calls * given.packets} packets arrived; ends that did not take all of one other end's: {pairs_hold(media, given.calls)}")
     check(faults, "media: each end took all of its call's other end, from where it sent itself", not pairs_hold(media, given.calls) and not media.strangers)
-    check(faults, "media: nothing passes behind the last call", nothing_passes(media))
+    check(faults, "media: nothing passes after the last call", nothing_passes(media))
     bind(given, folder, faults, 0, "leaves")
     print(f"logs: {folder}")
     sys.exit(1 if faults else 0)
