@@ -12,7 +12,7 @@ use Rattle.toml_parser.specs.Strings.{Key, recursion_limit}
 use Rattle.toml.specs.Data.{Data, Members}
 use Rattle.toml.specs.Tables.{no_nodes, Document, Expression, define}
 use Rattle.toml.specs.Parse.{after_byte, key_equals, keyval, val, header_key, expression, ends_line, line, lines, skip_bom, parse_document}
-use Rattle.configuration.specs.Files.{is_same}
+use Rattle.configuration.specs.Keys.{is_same}
 use Rattle.configuration.specs.Entries.{Entry, AreEntries, is_header, root_of, top_entries}
 use Rattle.configuration.proofs.SkipLaws.{bind_some, map_some, some_is}
 

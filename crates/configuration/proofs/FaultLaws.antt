@@ -10,13 +10,13 @@ use Rattle.configuration.specs.declared.flaw.Flaw.{Flaw}
 use Rattle.configuration.specs.declared.flaw.Flaw.TheVariants.{NoToml, UnknownKey, Missing, OtherType, OutOfRange, Odd, PastLastPort, RelayPort, Malformed, RandomKey, UserCount, UserTwice}
 use Rattle.configuration.specs.declared.fault.ConfigFault.{ConfigFault}
 use Rattle.configuration.specs.Rules.{first_broken}
-use Rattle.configuration.specs.Files.{config_of}
-use Rattle.configuration.specs.Flaws.{rule_of, flaw_in}
+use Rattle.configuration.specs.Flaws.{rule_of, flaw_in, config_of}
+use Rattle.configuration.specs.Files.{config_in}
 use Rattle.configuration.specs.Reading.{IsTextOf, Says, ReadsConfig, Refuses}
 use Rattle.configuration.specs.Lines.{line_behind}
 use Rattle.configuration.specs.FaultOf.{key_of_flaw, is_no_toml, IsKeyLine, IsFaultOf}
 use Rattle.configuration.proofs.ReadingLaws.{refused_by_rule}
-use Rattle.configuration.proofs.AgreeLaws.{flawless, flawed}
+use Rattle.configuration.proofs.JudgeLaws.{flawless, flawed}
 
 some_is : {X : Type 0} (x y : X) → Some x ≡ Some y → x ≡ y
 some_is x y h = cc
@@ -32,6 +32,16 @@ refuses_table bytes ms flaw text first = step (flawed ms flaw first) where
   step : ((config_of ms ≡ None) × (rule_of flaw ≡ rules.File)) ⊎ ((c : Config) × (config_of ms ≡ Some c) × (first_broken c ≡ Some (rule_of flaw))) → Refuses bytes (rule_of flaw)
   step (inl (none, file)) = subst (λ (e : ConfigError). Refuses bytes e) (sym file) (says_none bytes ms text none)
   step (inr (c, says, broken)) = refused_by_rule bytes c (rule_of flaw) (ms, text, says) broken
+
+reads_table : (bytes : List ℕ) (ms : Members) → IsTextOf bytes ms → flaw_in ms ≡ None → ReadsConfig bytes (config_in ms)
+reads_table bytes ms text none = let p = flawless ms none in record { says = (ms, text, p.0); rules = p.1 }
+
+-- of a table that is judged
+pub reads_judged : (bytes : List ℕ) (ms : Members) (c : Config) → IsTextOf bytes ms → (flaw_in ms ≡ None) × (c ≡ config_in ms) → ReadsConfig bytes c
+reads_judged bytes ms c text (none, is) = subst (λ (d : Config). ReadsConfig bytes d) (sym is) (reads_table bytes ms text none)
+
+pub refuses_judged : (bytes : List ℕ) (ms : Members) (flaw : Flaw) (e : ConfigError) → IsTextOf bytes ms → flaw_in ms ≡ Some flaw → e ≡ rule_of flaw → Refuses bytes e
+refuses_judged bytes ms flaw e text first is = subst (λ (r : ConfigError). Refuses bytes r) (sym is) (refuses_table bytes ms flaw text first)
 
 -- of a text with a table
 pub found_in : (bytes : List ℕ) (ms : Members) (r : Result (Option ConfigFault) AllocError) → IsTextOf bytes ms
@@ -51,7 +61,7 @@ pub none_in : (bytes : List ℕ) (ms : Members) (r : Result (Option ConfigFault)
     → IfOk r (λ fault. option_map (λ f. f.flaw) fault ≡ flaw_in ms) → IfOk r (λ fault. IfNone fault ((c : Config) × ReadsConfig bytes c))
 none_in bytes ms (Err e) text found = tt
 none_in bytes ms (Ok (Some f)) text found = tt
-none_in bytes ms (Ok None) text found = let p = flawless ms (sym found) in (p.0, record { says = (ms, text, p.1); rules = p.2 })
+none_in bytes ms (Ok None) text found = (config_in ms, reads_table bytes ms text (sym found))
 
 -- of a text without one
 no_toml_rule : (flaw : Flaw) → is_no_toml flaw ≡ true → rule_of flaw ≡ rules.File

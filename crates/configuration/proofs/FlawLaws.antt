@@ -6,7 +6,7 @@ use Rattle.std.specs.Cmp.Lexicographic.{pointwise}
 use Rattle.std.specs.Map.{keys_of}
 use Rattle.toml.specs.declared.value.Value.{Value}
 use Rattle.toml.specs.View.{members_view}
-use Rattle.configuration.specs.Files.{is_known_key}
+use Rattle.configuration.specs.Keys.{is_known_key}
 use Rattle.configuration.specs.declared.flaw.Flaw.{Flaw}
 use Rattle.configuration.specs.declared.flaw.Flaw.TheVariants.{UserTwice}
 use Rattle.configuration.specs.Flaws.{unknown_key, user_twice}
@@ -46,29 +46,6 @@ any_default (x ∷ xs) (suc i) d e less = any_default xs i d e (omega (arith, le
 -- ---- the first of some flaws
 
 -- however they are grouped
-pub grouped : (a b c d e f g h i j k l m n o p q r : Option Flaw)
-    → option_or (option_or (option_or (option_or (option_or (option_or (option_or (option_or (option_or (option_or (option_or (option_or (option_or (option_or (option_or (option_or (option_or a b) c) d) e) f) g) h) i) j) k) l) m) n) o) p) q) r
-    ≡ option_or a (option_or b (option_or c (option_or d (option_or e (option_or f (option_or g (option_or h (option_or i (option_or j (option_or k (option_or l (option_or m (option_or n (option_or o (option_or p (option_or q r))))))))))))))))
-grouped (Some x) b c d e f g h i j k l m n o p q r = refl
-grouped None (Some x) c d e f g h i j k l m n o p q r = refl
-grouped None None (Some x) d e f g h i j k l m n o p q r = refl
-grouped None None None (Some x) e f g h i j k l m n o p q r = refl
-grouped None None None None (Some x) f g h i j k l m n o p q r = refl
-grouped None None None None None (Some x) g h i j k l m n o p q r = refl
-grouped None None None None None None (Some x) h i j k l m n o p q r = refl
-grouped None None None None None None None (Some x) i j k l m n o p q r = refl
-grouped None None None None None None None None (Some x) j k l m n o p q r = refl
-grouped None None None None None None None None None (Some x) k l m n o p q r = refl
-grouped None None None None None None None None None None (Some x) l m n o p q r = refl
-grouped None None None None None None None None None None None (Some x) m n o p q r = refl
-grouped None None None None None None None None None None None None (Some x) n o p q r = refl
-grouped None None None None None None None None None None None None None (Some x) o p q r = refl
-grouped None None None None None None None None None None None None None None (Some x) p q r = refl
-grouped None None None None None None None None None None None None None None None (Some x) q r = refl
-grouped None None None None None None None None None None None None None None None None (Some x) r = refl
-grouped None None None None None None None None None None None None None None None None None r = refl
-
--- so are those of the rules
 pub grouped_rules : (a b c d e f g : Option Flaw)
     → option_or (option_or (option_or (option_or (option_or (option_or a b) c) d) e) f) g ≡ option_or a (option_or b (option_or c (option_or d (option_or e (option_or f g)))))
 grouped_rules (Some x) b c d e f g = refl

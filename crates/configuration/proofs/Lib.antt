@@ -1,4 +1,3 @@
-mod KeyLaws
 mod SkipLaws
 mod EntryLaws
 mod TopLaws
@@ -8,7 +7,7 @@ mod UserListLaws
 mod ReadingLaws
 mod WrittenLaws
 mod FlawLaws
-mod AgreeLaws
+mod JudgeLaws
 mod FaultLaws
 mod Numerals
 mod NumeralLaws

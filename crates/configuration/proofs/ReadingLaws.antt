@@ -4,7 +4,7 @@ use Rattle.configuration.specs.declared.config.Config.{Config}
 use Rattle.configuration.specs.declared.error.ConfigError.{ConfigError}
 use Rattle.configuration.specs.declared.error.ConfigError.TheVariants.{OutOfMemory, RelayPorts, Address, Users, MinExpires, Domain, File, CallDuration, SourceShare}
 use Rattle.configuration.specs.Rules.{has_relay_ports, has_address, has_users, has_lifetime, has_longest_lifetime, has_domain, has_silence_limit, has_length_limit, has_share, first_broken, KeepsRules}
-use Rattle.configuration.specs.Files.{config_of}
+use Rattle.configuration.specs.Flaws.{config_of}
 use Rattle.configuration.proofs.RuleLaws.{kept}
 use Rattle.configuration.specs.Reading.{Says, ReadsConfig, BreaksFirst, Refuses}
 
@@ -44,12 +44,6 @@ refused_by_rule bytes c Domain says broken = record { config = c; says = says; b
 refused_by_rule bytes c File says broken = absurd (no_rule_of_files c broken)
 refused_by_rule bytes c CallDuration says broken = record { config = c; says = says; broken = broken }
 refused_by_rule bytes c SourceShare says broken = record { config = c; says = says; broken = broken }
-
--- what a judgment of what is said refuses
-pub refused_at : (bytes : List ℕ) (c : Config) (r : Result Config ConfigError) → Says bytes c
-    → MatchResult r (λ d. (d ≡ c) × (first_broken d ≡ None)) (λ e. first_broken c ≡ Some e) → IfErr r (Refuses bytes)
-refused_at bytes c (Ok d) says judged = tt
-refused_at bytes c (Err e) says judged = refused_by_rule bytes c e says judged
 
 -- what is read keeps the rules
 pub kept_at : (bytes : List ℕ) (r : Result Config ConfigError) → IfOk r (λ c. ReadsConfig bytes c) → IfOk r (λ c. KeepsRules c)

@@ -9,7 +9,7 @@ use Rattle.toml.specs.Data.{Members, same_key}
 use Rattle.toml.specs.Tables.{implicit, dotted, Node, open_table, Nodes, no_nodes, node, get_node, insert, replace, close, Edit, header_node, dot_node, by_header, by_dot, along_header, along_dots, Definition, key_value, std_table, array_table, Expression, new_node, redefine, at_found, at_key, put, Document, define}
 use Rattle.toml.specs.Parse.{line, lines, skip_bom, parse_document}
 use Rattle.toml.proofs.Turns.{lines_end}
-use Rattle.configuration.specs.Files.{is_same}
+use Rattle.configuration.specs.Keys.{is_same}
 use Rattle.configuration.specs.Entries.{Entry, AreEntries, is_header, first_part, root_of, top_entries, first_top}
 use Rattle.configuration.specs.Lines.{has_key}
 use Rattle.configuration.proofs.SkipLaws.{bind_some, map_some, some_is, one_read}

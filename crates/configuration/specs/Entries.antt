@@ -9,7 +9,7 @@ use Rattle.toml_parser.specs.declared.error.ParseError.{ParseError}
 use Rattle.toml_parser.specs.declared.error.ParseError.TheVariants.{OutOfMemory}
 use Rattle.toml.specs.Tables.{Definition, key_value, std_table, array_table, Expression}
 use Rattle.toml.specs.Parse.{line}
-use Rattle.configuration.specs.Files.{is_same}
+use Rattle.configuration.specs.Keys.{is_same}
 
 -- an entry: the text from its beginning on, its key, the value or the header, and the text after it
 pub record Entry : Type 0 where

@@ -2,7 +2,8 @@
 use Rattle.std.specs.Prelude.{◌≡◌, ◌<◌, ◌≤◌, ◌⊎◌, ℕ, Bool, true, false, List, length, take, Option, Some, None, IfNone}
 use Rattle.toml.specs.Data.{Members}
 use Rattle.configuration.specs.Reading.{IsTextOf}
-use Rattle.configuration.specs.Flaws.{key_name, flaw_in}
+use Rattle.configuration.specs.Keys.{key_name}
+use Rattle.configuration.specs.Flaws.{flaw_in}
 use Rattle.configuration.specs.Lines.{max_looked, line_behind, has_key, IsLineOf}
 use Rattle.configuration.specs.declared.fault.ConfigFault.{ConfigFault}
 use Rattle.configuration.specs.declared.key.Key.TheVariants as keys

@@ -3,12 +3,13 @@ pub mod Domain
 pub mod Ranges
 pub mod RangeLaws
 pub mod Names
-pub mod Flags
+pub mod Keys
 pub mod Status
 pub mod Rules
 pub mod UserLists
 pub mod Files
 pub mod Flaws
+pub mod Judging
 pub mod Reading
 pub mod Entries
 pub mod Lines

@@ -2,7 +2,7 @@
 use Rattle.std.specs.Prelude.{◌≡◌, ◌==◌, ◌+◌, ◌-◌, ◌||◌, ℕ, Bool, false, List, [], ◌∷◌, length, take, Option, option_map, if◌then◌else◌}
 use Rattle.toml.specs.Data.{Members, no_members, member}
 use Rattle.toml.specs.Parse.{skip_bom}
-use Rattle.configuration.specs.Files.{is_same}
+use Rattle.configuration.specs.Keys.{is_same}
 use Rattle.configuration.specs.Entries.{Entry, AreEntries, first_top}
 
 -- a line is looked for in texts of at most this many bytes

@@ -1,5 +1,5 @@
 -- Which configuration a file says, and why it is refused.
-use Rattle.std.specs.Prelude.{◌≡◌, ℕ, List, Option, Some, None, option_map, Result, Ok, Err, IsUtf8, pos, codes}
+use Rattle.std.specs.Prelude.{◌≡◌, ℕ, List, Some, None, option_map, IsUtf8, pos}
 use Rattle.toml.specs.Data.{Members}
 use Rattle.toml.specs.Parse.{parse_document}
 use Rattle.toml.specs.Errors.{IsMemory}
@@ -9,7 +9,9 @@ use Rattle.configuration.specs.declared.error.ConfigError.{ConfigError}
 use Rattle.configuration.specs.declared.error.ConfigError.TheVariants.{OutOfMemory, RelayPorts, Address, Users, MinExpires, Domain, File, CallDuration, SourceShare}
 use Rattle.configuration.specs.Rules.{first_broken}
 use Rattle.sip_uri.specs.Hosts.{ip4_of}
-use Rattle.configuration.specs.Files.{number_at, text_at, config_of}
+use Rattle.configuration.specs.declared.key.Key.TheVariants as keys
+use Rattle.configuration.specs.Files.{number_at, text_at}
+use Rattle.configuration.specs.Flaws.{config_of}
 
 -- the bytes are UTF-8, and the text of this table (TOML 1.1)
 abbrev pub IsTextOf : List ℕ → Members → Type 0
@@ -48,18 +50,6 @@ pub record ReadsConfig (bytes : List ℕ) (c : Config) : Type 0 where
   pub says : Says bytes c
   pub rules : first_broken c ≡ None
 
--- why bytes say no configuration
-abbrev pub RefusesSaid : List ℕ → ConfigError → Type 0
-RefusesSaid bytes OutOfMemory = Unit {0}
-RefusesSaid bytes RelayPorts = ⊥
-RefusesSaid bytes Address = ⊥
-RefusesSaid bytes Users = ⊥
-RefusesSaid bytes MinExpires = ⊥
-RefusesSaid bytes Domain = ⊥
-RefusesSaid bytes File = (c : Config) → ¬ (Says bytes c)
-RefusesSaid bytes CallDuration = ⊥
-RefusesSaid bytes SourceShare = ⊥
-
 -- the bytes say a configuration, and this is the first rule that it breaks
 pub record BreaksFirst (bytes : List ℕ) (e : ConfigError) : Type 0 where
   pub config : Config
@@ -80,28 +70,15 @@ Refuses bytes SourceShare = BreaksFirst bytes SourceShare
 
 -- what a table says of a configuration, key by key: the exact numbers, and the address of the exact text
 pub record IsWritten (ms : Members) (c : Config) : Type 0 where
-  pub relay_first : number_at (codes "relay_first") ms ≡ Some (pos c.relay_first)
-  pub relay_pairs : number_at (codes "relay_pairs") ms ≡ Some (pos c.relay_pairs)
-  pub sip_port : number_at (codes "sip_port") ms ≡ Some (pos c.sip_port)
-  pub min_expires : number_at (codes "min_expires") ms ≡ Some (pos c.min_expires)
-  pub max_expires : number_at (codes "max_expires") ms ≡ option_map pos c.max_expires
-  pub silent_minutes : number_at (codes "silent_minutes") ms ≡ option_map pos c.silent_minutes
-  pub longest_call_hours : number_at (codes "longest_call_hours") ms ≡ option_map pos c.longest_call_hours
-  pub source_share : number_at (codes "source_share") ms ≡ option_map pos c.source_share
-  pub ip : (text : List ℕ) × (text_at (codes "ip") ms ≡ Some text) × (ip4_of text ≡ Some c.ip)
+  pub relay_first : number_at keys.RelayFirst ms ≡ Some (pos c.relay_first)
+  pub relay_pairs : number_at keys.RelayPairs ms ≡ Some (pos c.relay_pairs)
+  pub sip_port : number_at keys.SipPort ms ≡ Some (pos c.sip_port)
+  pub min_expires : number_at keys.MinExpires ms ≡ Some (pos c.min_expires)
+  pub max_expires : number_at keys.MaxExpires ms ≡ option_map pos c.max_expires
+  pub silent_minutes : number_at keys.SilentMinutes ms ≡ option_map pos c.silent_minutes
+  pub longest_call_hours : number_at keys.LongestCallHours ms ≡ option_map pos c.longest_call_hours
+  pub source_share : number_at keys.SourceShare ms ≡ option_map pos c.source_share
+  pub ip : (text : List ℕ) × (text_at keys.Ip ms ≡ Some text) × (ip4_of text ≡ Some c.ip)
 
 abbrev pub IsWrittenIn : List ℕ → Config → Type 0
 IsWrittenIn bytes c = (ms : Members) × IsTextOf bytes ms × IsWritten ms c
-
--- A call returned the value that is there, or found that there is none, unless memory ran out.
-abbrev pub Gives : {X : Type 0} → Result X ConfigError → Option X → Type 0
-Gives (Ok x) said = said ≡ Some x
-Gives (Err OutOfMemory) said = Unit {0}
-Gives (Err RelayPorts) said = ⊥
-Gives (Err Address) said = ⊥
-Gives (Err Users) said = ⊥
-Gives (Err MinExpires) said = ⊥
-Gives (Err Domain) said = ⊥
-Gives (Err File) said = said ≡ None
-Gives (Err CallDuration) said = ⊥
-Gives (Err SourceShare) said = ⊥

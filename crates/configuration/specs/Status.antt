@@ -1,10 +1,8 @@
 -- Where the status page is served, which shows what the server does, as a file says it.
-use Rattle.std.specs.Prelude.{ℕ, Bool, ◌||◌, ◌==◌, List, [], ◌∷◌, codes, slice_index, Option, Some, None, option_map, option_and_then, if◌then◌else◌}
+use Rattle.std.specs.Prelude.{ℕ, Bool, ◌||◌, ◌==◌, List, [], ◌∷◌, slice_index, Option, Some, None, option_and_then, if◌then◌else◌}
 use Rattle.text.specs.Cut.{before, after}
 use Rattle.text.specs.Number.{number_upto}
-use Rattle.toml.specs.Data.{Data, Members, as_str, get_member}
 use Rattle.sip_uri.specs.Hosts.{ip4_of}
-use Rattle.configuration.specs.Flags.{flag_of}
 use Rattle.sip_uri.specs.declared.uri.Addr.{Addr}
 
 -- a port from 1 to 65535: digits, the first of which is not 0
@@ -27,11 +25,3 @@ is_loopback ip = slice_index ip 0 == 127
 -- the page's address: a loopback address, or any address if the page is open
 abbrev pub page_at : Bool → List ℕ → Option Addr
 page_at is_open text = option_and_then (λ addr. if is_open || is_loopback addr.ip then Some addr else None) (page_addr text)
-
--- the page's address, which may be missing
-abbrev pub status_of : Bool → Option Data → Option (Option Addr)
-status_of is_open None = Some None
-status_of is_open (Some value) = option_map Some (option_and_then (page_at is_open) (as_str value))
-
-abbrev pub status_at : Members → Option (Option Addr)
-status_at ms = option_and_then (λ is_open. status_of is_open (get_member (codes "status") ms)) (flag_of (get_member (codes "status_open") ms))

@@ -3,7 +3,7 @@
 ghost use Rattle.std.specs.Prelude.{◌≡◌, ◌≤◌, ◌<◌, ◌&&◌, ◌||◌, not, List, length, option_map, IfOk, IfSome, MatchResult};
 ghost use Rattle.toml.specs.Parse as grammar;
 ghost use Rattle.toml_parser.specs.Reading.{Reads, Shortens, key_view};
-ghost use Rattle.configuration.specs.Files.{is_same};
+ghost use Rattle.configuration.specs.Keys.{is_same};
 ghost use Rattle.configuration.specs.Entries.{Entry, AreEntries, first_top, root_of, IsRead};
 
 use crate::skip::{key_equals, skip_value};

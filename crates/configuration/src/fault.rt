@@ -11,7 +11,7 @@ ghost use Rattle.configuration.specs.Reading.{IsTextOf, ReadsConfig, Refuses};
 ghost use Rattle.configuration.specs.FaultOf.{key_of_flaw, is_no_toml, HasTable, IsKeyLine, IsFaultOf};
 
 use crate::flaw::Flaw;
-use crate::flaws::flaw_in;
+use crate::judge::{Refusal, judged};
 use crate::key::Key;
 use crate::lines::{line_behind, line_of};
 use std::alloc::{AllocError, Global};
@@ -99,9 +99,10 @@ fn table_fault(
     ensures found { IfOk result (λ fault. option_map (λ f. f.flaw) fault ≡ flaw_in (table_view table.now)) }
     ensures line { IfOk result (λ fault. IfSome fault (λ f. IsKeyLine bytes.now (key_of_flaw f.flaw) f.line)) }
 {
-    match flaw_in(alloc, table)? {
-        Some(flaw) => Ok(Some(at_line(alloc, bytes, flaw)?)),
-        None => Ok(None),
+    match judged(alloc, table) {
+        Ok(_) => Ok(None),
+        Err(Refusal::Flawed(flaw)) => Ok(Some(at_line(alloc, bytes, flaw)?)),
+        Err(Refusal::OutOfMemory) => Err(AllocError),
     }
 }
 

@@ -30,28 +30,7 @@ pub enum Flaw<'a> {
 }
 
 ghost use Rattle.std.specs.Prelude.{◌≡◌, IfOk};
-ghost use Rattle.configuration.specs.Flaws.{key_rule, rule_of};
-
-fn key_rule(key: Key) -> ConfigError
-    ensures { result ≡ key_rule key }
-{
-    match key {
-        Key::RelayFirst | Key::RelayPairs => ConfigError::RelayPorts,
-        Key::Ip | Key::SipPort => ConfigError::Address,
-        Key::Users => ConfigError::Users,
-        Key::MinExpires | Key::MaxExpires => ConfigError::MinExpires,
-        Key::Domain => ConfigError::Domain,
-        Key::SilentMinutes | Key::LongestCallHours => ConfigError::CallDuration,
-        Key::SourceShare => ConfigError::SourceShare,
-        Key::Workers
-        | Key::RandomKey
-        | Key::Log
-        | Key::AnswerWithin
-        | Key::Status
-        | Key::StatusOpen
-        | Key::OldestLeaves => ConfigError::File,
-    }
-}
+ghost use Rattle.configuration.specs.Flaws.{rule_of};
 
 impl<'a> Flaw<'a> {
     /// The rule that is broken.
@@ -64,7 +43,7 @@ impl<'a> Flaw<'a> {
             | Flaw::Missing(_)
             | Flaw::OtherType(_)
             | Flaw::RandomKey(_) => ConfigError::File,
-            Flaw::OutOfRange(key, _) | Flaw::Malformed(key, _) => key_rule(*key),
+            Flaw::OutOfRange(key, _) | Flaw::Malformed(key, _) => key.rule(),
             Flaw::Odd(_) | Flaw::PastLastPort(_) | Flaw::RelayPort(_) => ConfigError::RelayPorts,
             Flaw::UserCount(_) | Flaw::UserTwice(_) => ConfigError::Users,
         }

@@ -1,106 +1,175 @@
-//! The keys of a configuration's file.
+//! The table of the keys of a configuration's file.
 
-use toml::Value;
+use crate::error::ConfigError;
 
 /// A key of a configuration's file.
 #[derive(Clone, Copy, Debug)]
 pub enum Key {
     RelayFirst,
     RelayPairs,
-    Ip,
     SipPort,
-    Users,
     MinExpires,
-    Domain,
-    Workers,
-    RandomKey,
-    Log,
-    AnswerWithin,
-    Status,
-    StatusOpen,
     MaxExpires,
-    OldestLeaves,
     SilentMinutes,
     LongestCallHours,
     SourceShare,
+    Workers,
+    AnswerWithin,
+    OldestLeaves,
+    Ip,
+    RandomKey,
+    Domain,
+    Users,
+    Log,
+    StatusOpen,
+    Status,
+}
+
+/// What a number counts.
+#[derive(Clone, Copy)]
+pub(crate) enum Measure {
+    Things,
+    Seconds,
+}
+
+/// What a value has to be by itself. What a rule says beyond that is checked once each key's value is right by itself.
+#[derive(Clone, Copy)]
+pub(crate) enum Kind {
+    /// A whole number. This rule says which.
+    Whole(ConfigError),
+    /// A number from the first to the second.
+    Between(Measure, u32, u32),
+    Truth,
+    /// A text. This rule says which.
+    Text(ConfigError),
+    /// 64 hexadecimal digits, which are secret.
+    Digits,
+    /// A word for the log.
+    Level,
+    /// An address for the page.
+    Page,
+    /// A list of texts. This rule says which.
+    Texts(ConfigError),
+}
+
+/// A row of the table of keys.
+#[derive(Clone, Copy)]
+pub(crate) struct Row {
+    /// How a file spells the key.
+    pub name: &'static str,
+    pub is_required: bool,
+    pub kind: Kind,
+}
+
+/// The keys, in the order in which their values are judged.
+pub(crate) const KEYS: [Key; 18] = [
+    Key::RelayFirst,
+    Key::RelayPairs,
+    Key::SipPort,
+    Key::MinExpires,
+    Key::MaxExpires,
+    Key::SilentMinutes,
+    Key::LongestCallHours,
+    Key::SourceShare,
+    Key::Workers,
+    Key::AnswerWithin,
+    Key::OldestLeaves,
+    Key::Ip,
+    Key::RandomKey,
+    Key::Domain,
+    Key::Users,
+    Key::Log,
+    Key::StatusOpen,
+    Key::Status,
+];
+
+ghost use Rattle.std.specs.Prelude.{◌≡◌};
+ghost use Rattle.configuration.specs.Keys.{kind_rule, key_rule, key_name, row_of, required, optional};
+
+fn required(name: &'static str, kind: Kind) -> Row
+    ensures name { result.name.now ≡ name.now }
+    ensures is_required { result.is_required ≡ (required name.now kind).is_required }
+    ensures kind { result.kind ≡ kind }
+{
+    Row {
+        name,
+        is_required: true,
+        kind,
+    }
+}
+
+fn optional(name: &'static str, kind: Kind) -> Row
+    ensures name { result.name.now ≡ name.now }
+    ensures is_required { result.is_required ≡ (optional name.now kind).is_required }
+    ensures kind { result.kind ≡ kind }
+{
+    Row {
+        name,
+        is_required: false,
+        kind,
+    }
+}
+
+impl Kind {
+    /// The rule that a value breaks which is not of this kind, or not as its rule says.
+    fn rule(self) -> ConfigError
+        ensures { result ≡ kind_rule self }
+    {
+        match self {
+            Kind::Whole(rule) | Kind::Text(rule) | Kind::Texts(rule) => rule,
+            Kind::Between(..) | Kind::Truth | Kind::Digits | Kind::Level | Kind::Page => {
+                ConfigError::File
+            }
+        }
+    }
 }
 
 impl Key {
-    ghost use Rattle.std.specs.Prelude.{◌≡◌};
-    ghost use Rattle.toml.specs.View.{view};
-    ghost use Rattle.configuration.specs.Flaws.{key_name, has_type_of};
+    /// Its row.
+    pub(crate) fn row(self) -> Row
+        ensures name { result.name.now ≡ (row_of self).name }
+        ensures is_required { result.is_required ≡ (row_of self).is_required }
+        ensures kind { result.kind ≡ (row_of self).kind }
+    {
+        match self {
+            Key::RelayFirst => required("relay_first", Kind::Whole(ConfigError::RelayPorts)),
+            Key::RelayPairs => required("relay_pairs", Kind::Whole(ConfigError::RelayPorts)),
+            Key::SipPort => required("sip_port", Kind::Whole(ConfigError::Address)),
+            Key::MinExpires => required("min_expires", Kind::Whole(ConfigError::MinExpires)),
+            Key::MaxExpires => optional("max_expires", Kind::Whole(ConfigError::MinExpires)),
+            Key::SilentMinutes => optional(
+                "silent_minutes",
+                Kind::Whole(ConfigError::CallDuration),
+            ),
+            Key::LongestCallHours => optional(
+                "longest_call_hours",
+                Kind::Whole(ConfigError::CallDuration),
+            ),
+            Key::SourceShare => optional("source_share", Kind::Whole(ConfigError::SourceShare)),
+            Key::Workers => optional("workers", Kind::Between(Measure::Things, 1, 8)),
+            Key::AnswerWithin => optional("answer_within", Kind::Between(Measure::Seconds, 1, 32)),
+            Key::OldestLeaves => optional("oldest_leaves", Kind::Truth),
+            Key::Ip => required("ip", Kind::Text(ConfigError::Address)),
+            Key::RandomKey => required("random_key", Kind::Digits),
+            Key::Domain => optional("domain", Kind::Text(ConfigError::Domain)),
+            Key::Users => required("users", Kind::Texts(ConfigError::Users)),
+            Key::Log => optional("log", Kind::Level),
+            Key::StatusOpen => optional("status_open", Kind::Truth),
+            Key::Status => optional("status", Kind::Page),
+        }
+    }
 
     /// How a file spells it.
     pub fn name(self) -> &'static str
         ensures { result.now ≡ key_name self }
     {
-        match self {
-            Key::RelayFirst => "relay_first",
-            Key::RelayPairs => "relay_pairs",
-            Key::Ip => "ip",
-            Key::SipPort => "sip_port",
-            Key::Users => "users",
-            Key::MinExpires => "min_expires",
-            Key::Domain => "domain",
-            Key::Workers => "workers",
-            Key::RandomKey => "random_key",
-            Key::Log => "log",
-            Key::AnswerWithin => "answer_within",
-            Key::Status => "status",
-            Key::StatusOpen => "status_open",
-            Key::MaxExpires => "max_expires",
-            Key::OldestLeaves => "oldest_leaves",
-            Key::SilentMinutes => "silent_minutes",
-            Key::LongestCallHours => "longest_call_hours",
-            Key::SourceShare => "source_share",
-        }
+        self.row().name
     }
 
-    /// Whether a value is of the key's type.
-    pub(crate) fn has_type_of(self, value: &Value) -> bool
-        ensures { result ≡ has_type_of self (view value.now) }
+    /// The rule of its value.
+    pub(crate) fn rule(self) -> ConfigError
+        ensures { result ≡ key_rule self }
     {
-        match self {
-            Key::RelayFirst
-            | Key::RelayPairs
-            | Key::SipPort
-            | Key::MinExpires
-            | Key::MaxExpires
-            | Key::SilentMinutes
-            | Key::LongestCallHours
-            | Key::SourceShare
-            | Key::Workers
-            | Key::AnswerWithin => value.as_integer().is_some(),
-            Key::Ip | Key::Domain | Key::RandomKey | Key::Log | Key::Status => {
-                value.as_str().is_some()
-            }
-            Key::StatusOpen | Key::OldestLeaves => value.as_bool().is_some(),
-            Key::Users => value.as_array().is_some(),
-        }
-    }
-
-    /// What its value has to be, in words.
-    pub(crate) fn asked(self) -> &'static str {
-        match self {
-            Key::RelayFirst => "an even port from 1024 to 65534",
-            Key::RelayPairs => "a number from 1 to 2048 with no port above 65535",
-            Key::Ip => "an IPv4 address in dotted form, not 0.0.0.0 and below 224.0.0.0",
-            Key::SipPort => "a port from 1 to 65535 that is no relay port",
-            Key::Users => {
-                "a list of 1 to 1000 names, none twice, each of 1 to 64 letters, digits, '-', '_' or '.'"
-            }
-            Key::MinExpires => "a number of seconds from 1 to 3600",
-            Key::Domain => "a host name",
-            Key::Workers => "a number from 1 to 8",
-            Key::RandomKey => "a text of 64 hexadecimal digits",
-            Key::Log => "\"none\", \"trouble\", \"calls\" or \"all\"",
-            Key::AnswerWithin => "a number of seconds from 1 to 32",
-            Key::Status => "ADDRESS:PORT, with a loopback address unless status_open is true,",
-            Key::StatusOpen | Key::OldestLeaves => "true or false",
-            Key::MaxExpires => "a number of seconds from min_expires to 4294967295",
-            Key::SilentMinutes => "a number of minutes from 1 to 1440",
-            Key::LongestCallHours => "a number of hours from 1 to 168",
-            Key::SourceShare => "a number from 1 to 4096",
-        }
+        self.row().kind.rule()
     }
 }

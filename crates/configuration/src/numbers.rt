@@ -2,21 +2,7 @@
 
 ghost use Rattle.std.specs.Prelude.{◌≡◌};
 ghost use Rattle.configuration.specs.Files.{natural, port_of, number_of};
-
-/// The numbers of a configuration, each of which fits its field.
-#[derive(Clone, Copy)]
-pub(crate) struct Numbers {
-    pub relay_first: u16,
-    pub relay_pairs: u16,
-    pub sip_port: u16,
-    pub min_expires: u32,
-    pub max_expires: Option<u32>,
-    pub silent_minutes: Option<u32>,
-    pub longest_call_hours: Option<u32>,
-    pub source_share: Option<u32>,
-    pub workers: u8,
-    pub answer_within: u8,
-}
+ghost use Rattle.configuration.specs.Flaws.{is_within};
 
 fn below_2_16(number: i64) -> Option<u16>
     ensures { result ≡ natural 65535 number }
@@ -49,4 +35,14 @@ pub(crate) fn number_of(number: i64) -> u32
     ensures { result ≡ number_of number }
 {
     below_2_32(number).unwrap_or(0)
+}
+
+/// Whether a number is from the least to the most.
+pub(crate) fn is_within(least: u32, most: u32, number: i64) -> bool
+    ensures { result ≡ is_within least most (natural 4294967295 number) }
+{
+    match below_2_32(number) {
+        Some(number) => least <= number && number <= most,
+        None => false,
+    }
 }

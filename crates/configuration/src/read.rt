@@ -1,16 +1,15 @@
 //! Reading a configuration.
 
-ghost use Rattle.std.specs.Prelude.{◌≡◌, None, Some, IfOk, IfErr, MatchResult};
+ghost use Rattle.std.specs.Prelude.{◌≡◌, IfOk, IfErr, MatchResult};
 ghost use Rattle.toml.specs.View.{table_view};
 ghost use Rattle.configuration.specs.declared.config.Config.{Config};
 ghost use Rattle.configuration.specs.declared.error.ConfigError.TheVariants.{OutOfMemory};
-ghost use Rattle.configuration.specs.Reading.{IsErrorOf, IsTextOf, RefusesText, RefusesSaid, Says, ReadsConfig, IsWrittenIn, Refuses};
-ghost use Rattle.configuration.specs.Rules.{first_broken, KeepsRules};
+ghost use Rattle.configuration.specs.Reading.{IsErrorOf, IsTextOf, RefusesText, ReadsConfig, IsWrittenIn, Refuses};
+ghost use Rattle.configuration.specs.Rules.{KeepsRules};
 
 use crate::config::Config;
 use crate::error::ConfigError;
-use crate::fields::config_of;
-use crate::rules::check;
+use crate::judge::{Refusal, judged};
 use std::alloc::Global;
 use toml::Table;
 use toml::de::Error;
@@ -27,7 +26,7 @@ fn error_of(error: &Error) -> ConfigError
 }
 
 /// The table of a text.
-pub(crate) fn table_of(alloc: Global, bytes: &[u8]) -> Result<Table, ConfigError>
+fn table_of(alloc: Global, bytes: &[u8]) -> Result<Table, ConfigError>
     ensures ok { IfOk result (λ table. IsTextOf bytes.now (table_view table)) }
     ensures refused { IfErr result (RefusesText bytes.now) }
 {
@@ -37,30 +36,16 @@ pub(crate) fn table_of(alloc: Global, bytes: &[u8]) -> Result<Table, ConfigError
     }
 }
 
-/// What the bytes say, whether or not it keeps the rules.
-fn said_by(alloc: Global, bytes: &[u8]) -> Result<Config, ConfigError>
-    ensures said { IfOk result (λ config. Says bytes.now config) }
-    ensures refused { IfErr result (RefusesSaid bytes.now) }
-{
-    let table = table_of(alloc, bytes)?;
-    config_of(alloc, &table)
-}
-
-/// The same configuration, if it keeps the rules.
-fn keep_valid(config: Config) -> Result<Config, ConfigError>
-    ensures { MatchResult result (λ c. (c ≡ config) × (first_broken c ≡ None)) (λ e. first_broken config ≡ Some e) }
-{
-    match check(&config) {
-        Ok(()) => Ok(config),
-        Err(error) => Err(error),
-    }
-}
-
 fn read(alloc: Global, bytes: &[u8]) -> Result<Config, ConfigError>
     ensures found { IfOk result (λ c. ReadsConfig bytes.now c) }
     ensures refused { IfErr result (Refuses bytes.now) }
 {
-    keep_valid(said_by(alloc, bytes)?)
+    let table = table_of(alloc, bytes)?;
+    match judged(alloc, &table) {
+        Ok(config) => Ok(config),
+        Err(Refusal::OutOfMemory) => Err(ConfigError::OutOfMemory),
+        Err(Refusal::Flawed(flaw)) => Err(flaw.rule()),
+    }
 }
 
 /// The configuration in the text of a file (TOML). A file that holds none is refused before any rule is checked.

@@ -1,14 +1,15 @@
 //! Where the status page is served, which shows what the server does, as a table has it.
 
-ghost use Rattle.std.specs.Prelude.{◌≡◌, codes, option_and_then};
-ghost use Rattle.toml.specs.Data.{as_str, get_member};
-ghost use Rattle.toml.specs.View.{view, table_view};
-ghost use Rattle.configuration.specs.Status.{page_port, page_addr, is_loopback, page_at, status_of, status_at};
+ghost use Rattle.std.specs.Prelude.{◌≡◌};
+ghost use Rattle.toml.specs.View.{table_view};
+ghost use Rattle.configuration.specs.Files.{status_at};
+ghost use Rattle.configuration.specs.Status.{page_port, page_addr, is_loopback, page_at};
 
-use crate::tables::{flag_at, value_at};
+use crate::key::Key;
+use crate::tables::{flag_at, text_at};
 use sip_uri::{Addr, ip4};
 use text::{cut, number_upto};
-use toml::{Table, Value};
+use toml::Table;
 
 /// A port from 1 to 65535 in decimal, without a leading 0.
 fn page_port(digits: &[u8]) -> Option<u16>
@@ -50,24 +51,10 @@ pub(crate) fn page_at(is_open: bool, text: &[u8]) -> Option<Addr>
     }
 }
 
-fn page_in(is_open: bool, value: &Value) -> Option<Addr>
-    ensures { result ≡ option_and_then (page_at is_open) (as_str (view value.now)) }
-{
-    page_at(is_open, value.as_str()?.as_bytes())
-}
-
-fn status_of(table: &Table, is_open: bool) -> Option<Option<Addr>>
-    ensures { result ≡ status_of is_open (get_member (codes "status") (table_view table.now)) }
-{
-    match value_at(table, "status") {
-        Some(value) => Some(Some(page_in(is_open, value)?)),
-        None => Some(None),
-    }
-}
-
-/// Where the page is served, if it is; none if the table's values for it are wrong.
-pub(crate) fn status_at(table: &Table) -> Option<Option<Addr>>
+/// Where the page is served, if it is.
+pub(crate) fn status_at(table: &Table) -> Option<Addr>
     ensures { result ≡ status_at (table_view table.now) }
 {
-    status_of(table, flag_at(table, "status_open")?)
+    let text = text_at(table, Key::Status)?;
+    page_at(flag_at(table, Key::StatusOpen), text.as_bytes())
 }

@@ -1,14 +1,12 @@
 //! The values at the keys of a table.
 
-ghost use Rattle.std.specs.Prelude.{◌≡◌, option_map, string_bytes};
-ghost use Rattle.std.specs.List.{list_all};
-ghost use Rattle.std.specs.Map.{keys_of};
+ghost use Rattle.std.specs.Prelude.{◌≡◌, option_map};
 ghost use Rattle.std.specs.Option.{option_copied};
-ghost use Rattle.toml.specs.Data.{get_member};
 ghost use Rattle.toml.specs.View.{view, array_view, table_view};
-ghost use Rattle.configuration.specs.Flags.{flag_of};
-ghost use Rattle.configuration.specs.Files.{is_same, is_required_key, is_optional_key, is_known_key, has_known_keys, number_at, text_at, array_at};
+ghost use Rattle.configuration.specs.Keys.{is_same, is_among, is_known_key};
+ghost use Rattle.configuration.specs.Files.{value_at, number_at, text_at, array_at, flag_at};
 
+use crate::key::{KEYS, Key};
 use toml::value::Array;
 use toml::{Table, Value};
 
@@ -19,77 +17,30 @@ pub(crate) fn is_same(text: &[u8], other: &[u8]) -> bool
     text == other
 }
 
-/// Whether it is a key that has to be there.
-fn is_required_key(key: &[u8]) -> bool
-    ensures { result ≡ is_required_key key.now }
+/// Whether one of the keys has this name.
+fn is_among(keys: &[Key], name: &[u8]) -> bool
+    ensures { result ≡ is_among keys.now name.now }
 {
-    is_same(key, b"relay_first")
-        || is_same(key, b"relay_pairs")
-        || is_same(key, b"ip")
-        || is_same(key, b"sip_port")
-        || is_same(key, b"users")
-        || is_same(key, b"min_expires")
-        || is_same(key, b"random_key")
+    keys.iter().any(|key| is_same(name, key.name().as_bytes()))
 }
 
-/// Whether it is a key that may be there.
-fn is_optional_key(key: &[u8]) -> bool
-    ensures { result ≡ is_optional_key key.now }
+/// Whether a key of a configuration has this name.
+pub(crate) fn is_known_key(name: &[u8]) -> bool
+    ensures { result ≡ is_known_key name.now }
 {
-    is_same(key, b"domain")
-        || is_same(key, b"workers")
-        || is_same(key, b"log")
-        || is_same(key, b"answer_within")
-        || is_same(key, b"status")
-        || is_same(key, b"status_open")
-        || is_same(key, b"max_expires")
-        || is_same(key, b"oldest_leaves")
-        || is_same(key, b"silent_minutes")
-        || is_same(key, b"longest_call_hours")
-        || is_same(key, b"source_share")
+    is_among(&KEYS, name)
 }
 
-/// Whether it is a key of a configuration.
-pub(crate) fn is_known_key(key: &[u8]) -> bool
-    ensures { result ≡ is_known_key key.now }
+/// The value of a key.
+pub(crate) fn value_at<'t>(table: &'t Table, key: Key) -> Option<&'t Value>
+    ensures { option_map (λ value. view value.now) result ≡ value_at key (table_view table.now) }
 {
-    is_required_key(key) || is_optional_key(key)
+    table.get(key.name())
 }
 
-fn all_known(table: &Table) -> bool
-    ensures { result ≡ list_all (λ key. is_known_key (string_bytes key)) (keys_of table.now.entries) }
-{
-    table.keys().all(|key| is_known_key(key.as_bytes()))
-}
-
-/// Whether each key of the table is one of a configuration.
-#[tactic(auto, using(crate::proofs::KeyLaws::known_keys))]
-pub(crate) fn has_known_keys(table: &Table) -> bool
-    ensures { result ≡ has_known_keys (table_view table.now) }
-{
-    all_known(table)
-}
-
-/// The value at a key.
-pub(crate) fn value_at<'t>(table: &'t Table, key: &str) -> Option<&'t Value>
-    ensures { option_map (λ value. view value.now) result ≡ get_member key.now (table_view table.now) }
-{
-    table.get(key)
-}
-
-/// Whether a key is true; a missing key is not. None if the value is of another type.
-pub(crate) fn flag_at(table: &Table, key: &str) -> Option<bool>
-    ensures { result ≡ flag_of (get_member key.now (table_view table.now)) }
-{
-    match value_at(table, key) {
-        Some(value) => value.as_bool(),
-        None => Some(false),
-    }
-}
-
-/// The whole number at a key.
-pub(crate) fn number_at(table: &Table, key: &str) -> Option<i64>
-    ensures { result ≡ number_at key.now (table_view table.now) }
+/// The whole number of a key.
+pub(crate) fn number_at(table: &Table, key: Key) -> Option<i64>
+    ensures { result ≡ number_at key (table_view table.now) }
 {
     match value_at(table, key) {
         Some(value) => value.as_integer(),
@@ -97,9 +48,9 @@ pub(crate) fn number_at(table: &Table, key: &str) -> Option<i64>
     }
 }
 
-/// The text at a key.
-pub(crate) fn text_at<'t>(table: &'t Table, key: &str) -> Option<&'t str>
-    ensures { option_copied result ≡ text_at key.now (table_view table.now) }
+/// The text of a key.
+pub(crate) fn text_at<'t>(table: &'t Table, key: Key) -> Option<&'t str>
+    ensures { option_copied result ≡ text_at key (table_view table.now) }
 {
     match value_at(table, key) {
         Some(value) => value.as_str(),
@@ -107,12 +58,22 @@ pub(crate) fn text_at<'t>(table: &'t Table, key: &str) -> Option<&'t str>
     }
 }
 
-/// The list at a key.
-pub(crate) fn array_at<'t>(table: &'t Table, key: &str) -> Option<&'t Array>
-    ensures { option_map (λ array. array_view array.now) result ≡ array_at key.now (table_view table.now) }
+/// The list of a key.
+pub(crate) fn array_at<'t>(table: &'t Table, key: Key) -> Option<&'t Array>
+    ensures { option_map (λ array. array_view array.now) result ≡ array_at key (table_view table.now) }
 {
     match value_at(table, key) {
         Some(value) => value.as_array(),
         None => None,
+    }
+}
+
+/// Whether a key is true. A key that is missing is not.
+pub(crate) fn flag_at(table: &Table, key: Key) -> bool
+    ensures { result ≡ flag_at key (table_view table.now) }
+{
+    match value_at(table, key) {
+        Some(value) => value.as_bool().unwrap_or(false),
+        None => false,
     }
 }

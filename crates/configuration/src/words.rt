@@ -2,7 +2,7 @@
 
 use crate::fault::ConfigFault;
 use crate::flaw::Flaw;
-use crate::key::Key;
+use crate::key::{Key, Kind, Measure};
 use std::fmt;
 
 /// How many bytes of a text are shown at most.
@@ -39,9 +39,48 @@ impl fmt::Display for Key {
 #[derive(Clone, Copy)]
 struct Asked(Key);
 
+/// What a rule asks of the value of a key.
+fn words_of_rule(key: Key) -> &'static str {
+    match key {
+        Key::RelayFirst => "an even port from 1024 to 65534",
+        Key::RelayPairs => "a number from 1 to 2048 with no port above 65535",
+        Key::SipPort => "a port from 1 to 65535 that is no relay port",
+        Key::MinExpires => "a number of seconds from 1 to 3600",
+        Key::MaxExpires => "a number of seconds from min_expires to 4294967295",
+        Key::SilentMinutes => "a number of minutes from 1 to 1440",
+        Key::LongestCallHours => "a number of hours from 1 to 168",
+        Key::SourceShare => "a number from 1 to 4096",
+        Key::Ip => "an IPv4 address in dotted form, not 0.0.0.0 and below 224.0.0.0",
+        Key::Domain => "a host name",
+        Key::Users => {
+            "a list of 1 to 1000 names, none twice, each of 1 to 64 letters, digits, '-', '_' or '.'"
+        }
+        _ => "a value of its kind",
+    }
+}
+
+/// What a number counts, in words.
+fn words_of_measure(measure: Measure) -> &'static str {
+    match measure {
+        Measure::Things => "a number",
+        Measure::Seconds => "a number of seconds",
+    }
+}
+
 impl fmt::Display for Asked {
     fn fmt<W: fmt::Write>(&self, f: &mut fmt::Formatter<W>) -> fmt::Result {
-        write!(f, "; {} is asked", self.0.asked())
+        let words = match self.0.row().kind {
+            Kind::Between(measure, least, most) => {
+                let number = words_of_measure(measure);
+                return write!(f, "; {number} from {least} to {most} is asked");
+            }
+            Kind::Truth => "true or false",
+            Kind::Digits => "a text of 64 hexadecimal digits",
+            Kind::Level => "\"none\", \"trouble\", \"calls\" or \"all\"",
+            Kind::Page => "ADDRESS:PORT, with a loopback address unless status_open is true,",
+            Kind::Whole(_) | Kind::Text(_) | Kind::Texts(_) => words_of_rule(self.0),
+        };
+        write!(f, "; {words} is asked")
     }
 }
 

@@ -2,7 +2,7 @@ use Rattle.std.proofs.Common.{◌≡◌}
 use Rattle.toml.specs.View.{table_view}
 use Rattle.configuration.specs.Flaws.{unknown_key}
 use Rattle.configuration.proofs.FlawLaws.{unknown_among}
-use Rattle.configuration.proofs.flaws.unknown_key.Given as goal
+use Rattle.configuration.proofs.key_flaws.unknown_key.Given as goal
 
 -- the first unknown key of what is left is the table's
 abbrev pub invariant-loop-key : goal.invariant-loop-key

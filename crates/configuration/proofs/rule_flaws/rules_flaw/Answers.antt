@@ -3,7 +3,7 @@ use Rattle.std.specs.Option.{option_or}
 use Rattle.toml.specs.View.{table_view}
 use Rattle.configuration.specs.Flaws.{relay_flaw, address_flaw, users_flaw, lifetime_flaw, domain_flaw, duration_flaw, share_flaw, rules_flaw}
 use Rattle.configuration.proofs.FlawLaws.{grouped_rules}
-use Rattle.configuration.proofs.flaws.rules_flaw.Goals as goal
+use Rattle.configuration.proofs.rule_flaws.rules_flaw.Goals as goal
 
 pub returns : goal.returns
 unfolding rules_flaw

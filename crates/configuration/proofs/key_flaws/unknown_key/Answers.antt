@@ -1,7 +1,7 @@
 use Rattle.std.proofs.Common.{rules, ◌≡◌, ◌∙◌, ap}
 use Rattle.std.specs.Map.{keys_of}
 use Rattle.configuration.proofs.FlawLaws.{unknown_among, unknown_keys}
-use Rattle.configuration.proofs.flaws.unknown_key.Goals as goal
+use Rattle.configuration.proofs.key_flaws.unknown_key.Goals as goal
 
 pub loop-key-init : goal.loop-key-init
 loop-key-init c =

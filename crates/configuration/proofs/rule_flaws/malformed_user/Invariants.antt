@@ -1,6 +1,6 @@
 use Rattle.std.proofs.Common.{◌≡◌, drop}
 use Rattle.configuration.specs.Flaws.{malformed_user}
-use Rattle.configuration.proofs.flaws.malformed_user.Given as goal
+use Rattle.configuration.proofs.rule_flaws.malformed_user.Given as goal
 
 -- no user so far is malformed
 abbrev pub invariant-loop-user : goal.invariant-loop-user

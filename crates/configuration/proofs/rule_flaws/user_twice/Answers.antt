@@ -2,7 +2,7 @@ use Rattle.std.proofs.Common.{rules, ◌≡◌, ◌∙◌, ℕ, Bool, [], cond, 
 use Rattle.configuration.specs.declared.flaw.Flaw.TheVariants.{UserTwice}
 use Rattle.configuration.specs.Flaws.{user_twice}
 use Rattle.configuration.proofs.FlawLaws.{any_default, twice_behind}
-use Rattle.configuration.proofs.flaws.user_twice.Goals as goal
+use Rattle.configuration.proofs.rule_flaws.user_twice.Goals as goal
 
 pub returns-then-stands_again : goal.returns-then-stands_again
 returns-then-stands_again c =
