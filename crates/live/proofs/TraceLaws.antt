@@ -3,6 +3,7 @@ use Rattle.std.proofs.Common.{◌≡◌, ◌∙◌, ℕ, ◌+◌, false, List, [
 use Rattle.std.proofs.lemmas.List.{append-nil}
 use Rattle.std.proofs.lemmas.List.Elements.{All-append, All-cons, All-nil, All-push}
 use Rattle.std.specs.List.{All}
+use Rattle.sip_uri.specs.declared.uri.Addr.{Addr}
 use Rattle.call_trace.specs.declared.datagram.Datagram.{Datagram}
 use Rattle.events.specs.declared.event.Event.{Event}
 use Rattle.events.specs.declared.event.What.TheVariants.{Due}
@@ -148,11 +149,11 @@ heard_more now salt news a b c (Done taken failed) hs h k front = record {
 heard_more now salt news a b c Lost hs h k front = record { happenings = hs; happens = same_happened a b c hs h k.turns.0 k.wire.taken k.turns.1.wire }
 heard_more now salt news a b c Behind hs h k front = absurd (cc)
 
-taken_more : (now salt : ℕ) (a b c : State) (turned : Turned) (hs : List Happening) → Happens a b hs → Takes now salt b c turned → is_behind_turn turned ≡ false → Went a c
-taken_more now salt a b c (Done taken failed) hs h k front =
+taken_more : (now salt : ℕ) (source : Addr) (a b c : State) (turned : Turned) (hs : List Happening) → Happens a b hs → Takes now salt source b c turned → is_behind_turn turned ≡ false → Went a c
+taken_more now salt source a b c (Done taken failed) hs h k front =
     record { happenings = hs ++ _; happens = one_more a b c hs _ h (carried (event now salt (comes k.arrival)) b c taken failed (Some k.arrival) k.turns refl k.taken) }
-taken_more now salt a b c Lost hs h k front = record { happenings = hs ++ _; happens = one_more a b c hs _ h (lost b c k.arrival k.turns.0 k.turns.1.wire k.taken) }
-taken_more now salt a b c Behind hs h k front = absurd (cc)
+taken_more now salt source a b c Lost hs h k front = record { happenings = hs ++ _; happens = one_more a b c hs _ h (lost b c k.arrival k.turns.0 k.turns.1.wire k.taken) }
+taken_more now salt source a b c Behind hs h k front = absurd (cc)
 
 rests_more : (a b c : State) (hs : List Happening) → Happens a b hs → Rests b c → Went a c
 rests_more a b c hs h k = record { happenings = hs; happens = same_happened a b c hs h k.agent k.taken k.tried }
@@ -160,12 +161,12 @@ rests_more a b c hs h k = record { happenings = hs; happens = same_happened a b 
 pub round_more : (now salt : ℕ) (news : Option News) (a b c : State) (round : Round) → Went a b → Rounds now salt news b c round → is_behind round ≡ false → Went a c
 round_more now salt None a b c (Fired turned) h k front = fired_more now salt a b c turned h.happenings h.happens k front
 round_more now salt None a b c (Heard turned) h k front = absurd k
-round_more now salt None a b c (Took turned) h k front = taken_more now salt a b c turned h.happenings h.happens k front
+round_more now salt None a b c (Took source turned) h k front = taken_more now salt source a b c turned h.happenings h.happens k front
 round_more now salt None a b c Waited h k front = rests_more a b c h.happenings h.happens k.rests
 round_more now salt None a b c Failed h k front = rests_more a b c h.happenings h.happens k.rests
 round_more now salt (Some news) a b c (Heard turned) h k front = heard_more now salt news a b c turned h.happenings h.happens k front
 round_more now salt (Some news) a b c (Fired turned) h k front = absurd k
-round_more now salt (Some news) a b c (Took turned) h k front = absurd k
+round_more now salt (Some news) a b c (Took source turned) h k front = absurd k
 round_more now salt (Some news) a b c Waited h k front = absurd k
 round_more now salt (Some news) a b c Failed h k front = absurd k
 

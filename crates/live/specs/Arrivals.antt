@@ -18,8 +18,9 @@ buffer_length = 16385
 abbrev pub comes : Arrival → What
 comes d = Datagram d.source d.bytes
 
--- One more is taken, and this is what comes with it, unless memory is refused for that.
-pub record TakesOne (before after : List Arrival) (what : Result What AllocError) : Type 0 where
+-- One more is taken, from this source, and this is what comes with it, unless memory is refused for that.
+pub record TakesOne (before after : List Arrival) (source : Addr) (what : Result What AllocError) : Type 0 where
   pub arrival : Arrival
+  pub from : arrival.source ≡ source
   pub taken : after ≡ before ++ arrival ∷ []
   pub comes : IfOk what (λ w. w ≡ comes arrival)

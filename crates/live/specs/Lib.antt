@@ -1,5 +1,6 @@
 pub mod Arrivals
 pub mod News
+pub mod Reports
 pub mod Rounds
 pub mod Salts
 pub mod Sending

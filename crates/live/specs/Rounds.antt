@@ -1,6 +1,7 @@
 -- What a round of the signalling does: it passes news to the agent, or fires what is due, or takes a datagram, or
 -- waits.
 use Rattle.std.specs.Prelude.{◌≡◌, ℕ, ◌+◌, ◌-◌, ◌^◌, Bool, true, false, nat_le, min, [], ◌∷◌, ◌++◌, Option, Some, None, ◌⊎◌, if◌then◌else◌}
+use Rattle.sip_uri.specs.declared.uri.Addr.{Addr}
 use Rattle.relay.specs.Lists.{Lists}
 use Rattle.events.specs.declared.event.Event.{Event}
 use Rattle.events.specs.declared.event.What.{What}
@@ -72,11 +73,12 @@ pub record Hears (now salt : ℕ) (news : News) (a b : State) (turned : Turned) 
   pub wire : OnlySends a.wire b.wire
   pub turns : Turns (event now salt (what_of news)) a b turned
 
--- no timer is due, and a datagram is taken
-pub record Takes (now salt : ℕ) (a b : State) (turned : Turned) : Type 0 where
+-- no timer is due, and a datagram from this source is taken
+pub record Takes (now salt : ℕ) (source : Addr) (a b : State) (turned : Turned) : Type 0 where
   pub due : is_due now (next_due a.agent) ≡ false
   pub asks : AsksForOne a b
   pub arrival : Arrival
+  pub from : arrival.source ≡ source
   pub taken : b.wire.taken ≡ a.wire.taken ++ arrival ∷ []
   pub waited : NeverWaits a b
   pub turns : Turns (event now salt (comes arrival)) a b turned
@@ -106,7 +108,7 @@ HearsIn now salt news a b round = ⊥
 abbrev pub GoesOn : ℕ → ℕ → State → State → Round → Type 0
 GoesOn now salt a b (Fired turned) = Fires now salt a b turned
 GoesOn now salt a b (Heard turned) = ⊥
-GoesOn now salt a b (Took turned) = Takes now salt a b turned
+GoesOn now salt a b (Took source turned) = Takes now salt source a b turned
 GoesOn now salt a b Waited = Waits now a b
 GoesOn now salt a b Failed = Fails now a b
 
@@ -118,7 +120,7 @@ Rounds now salt (Some news) a b round = HearsIn now salt news a b round
 abbrev pub salts_after : ChaCha → Round → ChaCha
 salts_after g (Fired turned) = after_salt g
 salts_after g (Heard turned) = after_salt g
-salts_after g (Took turned) = after_salt g
+salts_after g (Took source turned) = after_salt g
 salts_after g Waited = g
 salts_after g Failed = g
 
@@ -141,7 +143,7 @@ lost_after lost Behind = lost
 abbrev pub streaks_after : Streaks → Round → Streaks
 streaks_after x (Fired turned) = record { failed = x.failed; lost = lost_after x.lost turned }
 streaks_after x (Heard turned) = record { failed = x.failed; lost = lost_after x.lost turned }
-streaks_after x (Took turned) = record { failed = 0; lost = lost_after x.lost turned }
+streaks_after x (Took source turned) = record { failed = 0; lost = lost_after x.lost turned }
 streaks_after x Waited = record { failed = 0; lost = x.lost }
 streaks_after x Failed = record { failed = one_more x.failed; lost = x.lost }
 
@@ -154,7 +156,7 @@ is_behind_turn Behind = true
 abbrev pub is_behind : Round → Bool
 is_behind (Fired turned) = is_behind_turn turned
 is_behind (Heard turned) = is_behind_turn turned
-is_behind (Took turned) = is_behind_turn turned
+is_behind (Took source turned) = is_behind_turn turned
 is_behind Waited = false
 is_behind Failed = false
 

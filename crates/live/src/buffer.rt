@@ -3,18 +3,16 @@
 ghost use Rattle.std.specs.Prelude.{◌≡◌, IfOk, length};
 ghost use Rattle.live.specs.Arrivals.{buffer_length};
 
-use sip_uri::Addr;
 use std::alloc::{AllocError, Global};
 use std::marker::Model;
 
 /// One byte more than a datagram may have, so that a longer one is seen to be too long.
 const BUFFER: usize = 16_385;
 
-/// Room for one datagram and one byte more, and where the last datagram came from.
+/// Room for one datagram and one byte more.
 #[derive(Drop)]
 pub struct DatagramBuffer {
     pub(crate) bytes: Vec<u8>,
-    pub(crate) source: Option<Addr>,
 }
 
 impl Model for DatagramBuffer {
@@ -34,6 +32,5 @@ pub fn datagram_buffer(alloc: Global) -> Result<DatagramBuffer, AllocError>
 {
     Ok(DatagramBuffer {
         bytes: vec![in alloc; 0; BUFFER]?,
-        source: None,
     })
 }

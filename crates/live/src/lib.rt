@@ -6,6 +6,8 @@ mod buffer;
 mod news;
 mod news_log;
 mod number_log;
+mod report;
+mod report_log;
 mod round;
 mod salt;
 mod service;
@@ -19,6 +21,8 @@ pub use buffer::{DatagramBuffer, datagram_buffer};
 pub use news::News;
 pub use news_log::NewsLog;
 pub use number_log::NumberLog;
+pub use report::Report;
+pub use report_log::ReportLog;
 pub use round::Round;
 pub use salt::{
     next_print_key, next_salt, salts_have_their_own_places, salts_of, starts_have_their_own_places,

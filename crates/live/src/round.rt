@@ -33,8 +33,8 @@ pub enum Round {
     Fired(Turned),
     /// There was news.
     Heard(Turned),
-    /// A datagram was there.
-    Took(Turned),
+    /// A datagram was there, from this source.
+    Took(Addr, Turned),
     /// Nothing was there, and it waited.
     Waited,
     /// A receive or a wait failed.
@@ -71,15 +71,15 @@ fn datagram(alloc: Global, source: Addr, bytes: &[u8]) -> Result<What, AllocErro
     })
 }
 
-/// Takes a datagram if one is there, and returns what comes with it, unless memory is refused for that.
+/// Takes a datagram if one is there. Returns its source and what comes with it, unless memory is refused for that.
 fn receive<W: Wire>(
     alloc: Global,
     wire: &mut W,
     buffer: &mut DatagramBuffer,
-) -> Result<Option<Result<What, AllocError>>, WireFault>
+) -> Result<Option<(Addr, Result<What, AllocError>)>, WireFault>
     ensures taken { MatchResult result
         (λ r. MatchOption r ((W.seen wire.new).taken ≡ (W.seen wire.old).taken)
-        (λ what. TakesOne (W.seen wire.old).taken (W.seen wire.new).taken what))
+        (λ d. TakesOne (W.seen wire.old).taken (W.seen wire.new).taken d.0 d.1))
         (λ _. (W.seen wire.new).taken ≡ (W.seen wire.old).taken) }
     ensures rooms { (W.seen wire.new).rooms ≡ (W.seen wire.old).rooms ++ buffer_length ∷ [] }
     ensures tried { (W.seen wire.new).tried ≡ (W.seen wire.old).tried }
@@ -89,9 +89,8 @@ fn receive<W: Wire>(
     let Some((source, length)) = wire.receive(buffer.bytes.as_mut_slice())? else {
         return Ok(None);
     };
-    buffer.source = Some(source);
     let bytes = &buffer.bytes.as_slice()[..length];
-    Ok(Some(datagram(alloc, source, bytes)))
+    Ok(Some((source, datagram(alloc, source, bytes))))
 }
 
 impl<W: Wire> Signalling<W> {
@@ -144,12 +143,13 @@ impl<W: Wire> Signalling<W> {
                 Ok(()) => Round::Waited,
                 Err(_) => Round::Failed,
             },
-            Ok(Some(what)) => {
+            Ok(Some((source, what))) => {
                 let salt = next_salt(&mut self.salts);
-                match what {
-                    Err(_) => Round::Took(Turned::Lost),
-                    Ok(what) => Round::Took(self.happen(rt, Event { now, salt, what })),
-                }
+                let turned = match what {
+                    Err(_) => Turned::Lost,
+                    Ok(what) => self.happen(rt, Event { now, salt, what }),
+                };
+                Round::Took(source, turned)
             }
         }
     }

@@ -2,9 +2,8 @@
 
 ghost use Rattle.std.specs.Prelude.{◌≡◌, ℕ, List, [], ◌∷◌, ◌++◌, MatchOption};
 ghost use Rattle.live.specs.Rounds.{TableAt, end_after, streaks_after};
-ghost use Rattle.live.specs.Serving.{Leads, Served, one_less, with_trouble};
+ghost use Rattle.live.specs.Serving.{Leads, Served, one_less};
 ghost use Rattle.live.specs.Traces.{LivesUntil};
-ghost use Rattle.live.specs.Troubles.{trouble_between};
 ghost use Rattle.live.specs.Turns.{HasTable};
 
 use crate::round::Round;
@@ -46,23 +45,22 @@ fn go_on<W: Wire, C: Clock, O: Operator, R: Wait>(
     streaks: &mut Streaks,
 ) -> Round
     requires { HasTable signalling.old.board signalling.old.agent }
-    ensures round { Leads
+    ensures round { Leads streaks.old streaks.new
         (record {
           state = record { agent = signalling.old.agent; lists = signalling.old.board; wire = W.seen signalling.old.wire };
           salts = signalling.old.salts;
           moments = C.told clock.old;
           news = O.handed operator.old;
-          trouble = O.told operator.old;
+          told = O.told operator.old;
         })
         (record {
           state = record { agent = signalling.new.agent; lists = signalling.new.board; wire = W.seen signalling.new.wire };
           salts = signalling.new.salts;
           moments = C.told clock.new;
           news = O.handed operator.new;
-          trouble = O.told operator.new;
+          told = O.told operator.new;
         }) result }
     ensures streaks { streaks.new ≡ streaks_after streaks.old result }
-    ensures told { O.told operator.new ≡ with_trouble (O.told operator.old) (trouble_between streaks.old streaks.new) }
     ensures table { MatchOption (end_after streaks.new result) (HasTable signalling.new.board signalling.new.agent)
         (λ end. TableAt signalling.new.board signalling.new.agent end) }
 {
@@ -72,14 +70,13 @@ fn go_on<W: Wire, C: Clock, O: Operator, R: Wait>(
     let before = *streaks;
     *streaks = before.after(round);
     tell_of_change(operator, before, *streaks);
-    let source = signalling.buffer.source;
-    tell_of_event(operator, &signalling.agent, source, round, now);
+    tell_of_event(operator, &signalling.agent, round, now);
     round
 }
 
-/// Makes rounds until as many are made as are asked for, until the flag is set, or until too many in a row fail. The
-/// operator is notified of each kind of trouble as it begins, and of each event once the agent took it. The agent
-/// gets each piece of the operator's news once.
+/// Makes rounds until as many are made as are asked for, until the flag is set, or until too many in a row fail. Each
+/// round asks the operator for news, which the agent gets once. The operator is told of each kind of trouble as it
+/// begins and as it is over, and of each event once the agent took it.
 pub fn serve<W: Wire, C: Clock, O: Operator, R: Wait>(
     rt: &R,
     signalling: &mut Signalling<W>,
@@ -96,14 +93,14 @@ pub fn serve<W: Wire, C: Clock, O: Operator, R: Wait>(
           salts = signalling.old.salts;
           moments = C.told clock.old;
           news = O.handed operator.old;
-          trouble = O.told operator.old;
+          told = O.told operator.old;
         })
         (record {
           state = record { agent = signalling.new.agent; lists = signalling.new.board; wire = W.seen signalling.new.wire };
           salts = signalling.new.salts;
           moments = C.told clock.new;
           news = O.handed operator.new;
-          trouble = O.told operator.new;
+          told = O.told operator.new;
         }) turns result }
     // The trace of the live server.
     ensures lives { LivesUntil

@@ -61,7 +61,7 @@ fn is_behind(round: Round) -> bool
     match round {
         Round::Fired(turned) => is_behind_turn(turned),
         Round::Heard(turned) => is_behind_turn(turned),
-        Round::Took(turned) => is_behind_turn(turned),
+        Round::Took(_, turned) => is_behind_turn(turned),
         Round::Waited => false,
         Round::Failed => false,
     }
@@ -77,7 +77,7 @@ impl Streaks {
                 failed: self.failed,
                 lost: lost_after(self.lost, turned),
             },
-            Round::Took(turned) => Streaks {
+            Round::Took(_, turned) => Streaks {
                 failed: 0,
                 lost: lost_after(self.lost, turned),
             },

@@ -8,18 +8,19 @@ use crate::status_desk::StatusDesk;
 use crate::user_desk::UserDesk;
 use agent::Agent;
 use configuration::LogLevel;
-use live::{News, NewsLog, Operator, Trouble};
+use live::{News, NewsLog, Operator, Report, ReportLog, Trouble};
 use log_rules::{logs_calls, logs_trouble};
 use sip_uri::Addr;
 use std::alloc::Global;
 use std::fs::Files;
+use std::snapshot::Snapshot;
 
 /// Writes it to the log.
 #[derive(Drop)]
 pub(crate) struct Troubles<'a, R> {
     rt: &'a R,
-    told: Option<Trouble>,
-    /// The news that it handed in. Only clauses read it.
+    /// What it was asked and told, and the news that it handed in. Only clauses read them.
+    told: ReportLog,
     handed: NewsLog,
     /// A call without media for this many minutes is silent.
     silent_minutes: Option<u32>,
@@ -46,7 +47,7 @@ impl<'a, R: Files + AllocGlobal> Troubles<'a, R> {
     ) -> Troubles<'a, R> {
         Troubles {
             rt,
-            told: None,
+            told: ReportLog::new(),
             handed: NewsLog::new(alloc),
             silent_minutes,
             level,
@@ -129,13 +130,14 @@ impl<'a, R: Files + AllocGlobal> Troubles<'a, R> {
 }
 
 impl<R: Files + AllocGlobal> Operator for Troubles<'_, R> {
-    ghost told = { λ t. t.told };
+    ghost told = { λ t. t.told.entries };
 
     ghost use Rattle.live.specs.News.{logged};
 
     ghost handed = { λ t. logged t.handed };
 
     fn news(&mut self, now: u64) -> Option<News> {
+        self.told.note(&Report::Asked(now));
         self.look_at_file(now);
         let news = self.find_news(now)?;
         if self.handed.note(&news).is_err() {
@@ -145,7 +147,7 @@ impl<R: Files + AllocGlobal> Operator for Troubles<'_, R> {
     }
 
     fn tell(&mut self, trouble: Trouble) {
-        self.told = Some(trouble);
+        self.told.note(&Report::Begins(trouble));
         match trouble {
             Trouble::Socket => self.put(b"office: trouble: the socket for SIP fails\n"),
             Trouble::Memory => self.put(b"office: trouble: memory is refused for an event\n"),
@@ -153,6 +155,7 @@ impl<R: Files + AllocGlobal> Operator for Troubles<'_, R> {
     }
 
     fn tell_end(&mut self, trouble: Trouble) {
+        self.told.note(&Report::Ends(trouble));
         match trouble {
             Trouble::Socket => self.put(b"office: trouble is over: the socket for SIP\n"),
             Trouble::Memory => self.put(b"office: trouble is over: memory for events\n"),
@@ -160,6 +163,8 @@ impl<R: Files + AllocGlobal> Operator for Troubles<'_, R> {
     }
 
     fn noted(&mut self, agent: &Agent, source: Option<Addr>, now: u64) {
+        self.told
+            .note(&Report::Noted(Snapshot::of(agent), source, now));
         let mut lines = Vec::new(self.alloc);
         let put = self.log.put_lines(&mut lines, agent, source, now);
         if put.is_ok() && !lines.is_empty() {
@@ -170,6 +175,7 @@ impl<R: Files + AllocGlobal> Operator for Troubles<'_, R> {
     }
 
     fn look(&mut self, agent: &Agent, now: u64) {
+        self.told.note(&Report::Looked(Snapshot::of(agent), now));
         if let Some(users) = &mut self.users {
             users.lose();
         }
