@@ -48,5 +48,7 @@ pub mod RepeatRows
 pub mod RepeatEvents
 pub mod RefusalSpeech
 pub mod ReplyRows
+pub mod RequestRules
+pub mod ResponseRules
 pub mod WholeRows
 pub mod WholeEvents

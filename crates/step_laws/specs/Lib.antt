@@ -13,5 +13,6 @@ pub mod Ends
 pub mod Dropping
 pub mod Registering
 pub mod Offers
+pub mod Rulings
 pub mod Answers
 pub mod Lifetimes

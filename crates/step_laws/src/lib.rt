@@ -16,6 +16,7 @@ mod refusals;
 mod registrations;
 mod repeats;
 mod replies;
+mod rulings;
 mod timeouts;
 mod whole;
 
@@ -37,5 +38,6 @@ pub use refusals::{refusals_go_back, unclaimed_responses_get_an_ack_at_most};
 pub use registrations::registers_are_counted;
 pub use repeats::{repeats_get_what_went_before, timers_send_what_went_before};
 pub use replies::own_responses_go_back;
+pub use rulings::{awaited_responses_go_by_their_class, plain_byes_leave, plain_invites_begin};
 pub use timeouts::unanswered_offers_end;
 pub use whole::whatever_goes_has_a_reason;
