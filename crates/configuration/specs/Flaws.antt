@@ -1,5 +1,5 @@
--- What is wrong with a configuration's file: the first flaw, in the order in which the keys are judged and the rules are
--- checked.
+-- What is wrong with a configuration's file: the first flaw, in the order in which the keys are judged and the rules
+-- are checked.
 use Rattle.std.specs.Prelude.{◌==◌, ◌%◌, ℕ, ℤ, Bool, true, false, not, ◌&&◌, nat_eq, nat_le, List, [], ◌∷◌, length, Option, Some, None, is_some, unwrap_or, if◌then◌else◌}
 use Rattle.std.specs.List.{list_any}
 use Rattle.std.specs.Option.{option_or}
@@ -179,6 +179,7 @@ abbrev pub config_without : Option Flaw → Config → Option Config
 config_without None c = Some c
 config_without (Some flaw) c = None
 
--- the configuration in a table, whether or not it keeps the rules: none if a key is unknown, missing or has a wrong value
+-- the configuration in a table, whether or not it keeps the rules: none if a key is unknown, missing or has a wrong
+-- value
 abbrev pub config_of : Members → Option Config
 config_of ms = config_without (said_flaw ms) (config_in ms)
