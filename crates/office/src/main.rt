@@ -9,13 +9,16 @@ mod event_log;
 mod log_lines;
 mod log_writer;
 mod media_log;
-mod page_desk;
+mod opening;
 mod page_thread;
+mod parts;
 mod port_counts;
 mod refusal;
+mod serving;
 mod shared;
-mod status_desk;
+mod snapshot;
 mod telephony;
+mod threads;
 mod troubles;
 mod user_desk;
 mod watch;
@@ -71,7 +74,6 @@ fn ending<
         + Shared
         + Input
         + Print
-        + Eprint
         + AllocGlobal,
 >(rt: &R, telephony: &mut Telephony<'_, R>) -> Result<Ending, CommandError> {
     let owned = words(rt)?;

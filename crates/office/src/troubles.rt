@@ -4,12 +4,14 @@ ghost use Rattle.std.specs.Prelude.{◌≡◌};
 
 use crate::event_log::EventLog;
 use crate::log_lines::LogLines;
-use crate::status_desk::StatusDesk;
+use crate::parts::Desks;
+use crate::snapshot::show;
 use crate::user_desk::UserDesk;
 use agent::Agent;
-use configuration::LogLevel;
+use configuration::{Config, LogLevel};
 use live::{News, NewsLog, Operator, Trouble};
 use log_rules::{logs_calls, logs_trouble};
+use page_desk::StatusDesk;
 use sip_uri::Addr;
 use std::alloc::Global;
 use std::fs::Files;
@@ -36,25 +38,23 @@ pub(crate) struct Troubles<'a, R> {
 impl<'a, R: Files + AllocGlobal> Troubles<'a, R> {
     pub(crate) fn new(
         rt: &'a R,
-        alloc: Global,
-        level: LogLevel,
-        silent_minutes: Option<u32>,
+        config: &Config,
         lines: LogLines,
         log: EventLog,
-        desk: Option<StatusDesk>,
-        users: Option<UserDesk>,
+        desks: Desks,
     ) -> Troubles<'a, R> {
+        let alloc = rt.alloc();
         Troubles {
             rt,
             told: None,
             handed: NewsLog::new(alloc),
-            silent_minutes,
-            level,
+            silent_minutes: config.silent_minutes,
+            level: config.log,
             alloc,
             lines,
             log,
-            desk,
-            users,
+            desk: desks.page,
+            users: desks.users,
         }
     }
 
@@ -123,7 +123,7 @@ impl<'a, R: Files + AllocGlobal> Troubles<'a, R> {
         ensures handed { self.new.handed ≡ self.old.handed }
     {
         if let Some(desk) = &mut self.desk {
-            desk.look(agent, &mut self.log.media, now);
+            show(self.alloc, desk, agent, &mut self.log.media, now);
         }
     }
 }
