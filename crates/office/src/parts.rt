@@ -1,5 +1,6 @@
 //! What a server is made of, before it has a board.
 
+use crate::file_thread::FileEnds;
 use crate::log_lines::LogLines;
 use crate::log_writer::LogWriter;
 use crate::opening::Opened;
@@ -28,7 +29,7 @@ const ROOM_OF_SENDING: usize = 16_384;
 pub(crate) struct Desks {
     /// Where a page is served, if one is.
     pub(crate) page: Option<StatusDesk>,
-    /// The check of the configuration's file, if there is a file.
+    /// What is known of the configuration's file, if there is a file.
     pub(crate) users: Option<UserDesk>,
 }
 
@@ -87,25 +88,26 @@ fn page_of(
     Ok((Some(status), Some(Page { server, desk })))
 }
 
-/// What the signalling has of the file at this path, if there is one.
+/// What the signalling has of the configuration's file, if a thread looks at it.
 fn user_desk(
     alloc: Global,
-    path: Option<String>,
+    file: Option<FileEnds>,
     config: &Config,
 ) -> Result<Option<UserDesk>, AllocError> {
-    match path {
-        Some(path) => Ok(Some(UserDesk::new(alloc, path, config.users.as_slice())?)),
+    match file {
+        Some(file) => Ok(Some(UserDesk::new(alloc, file, config.users.as_slice())?)),
         None => Ok(None),
     }
 }
 
 impl<'a, R: Clock + AllocGlobal> Parts<'a, R> {
-    /// The parts of a server with these sockets, whose configuration is of the file at the path, if there is one.
+    /// The parts of a server with these sockets, and with a thread that looks at the file of its configuration, if there
+    /// is one.
     pub(crate) fn new(
         rt: &'a R,
         config: &Config,
         opened: Opened,
-        path: Option<String>,
+        file: Option<FileEnds>,
         turns: Option<u64>,
     ) -> Result<Parts<'a, R>, HostFault> {
         let alloc = rt.alloc();
@@ -116,11 +118,13 @@ impl<'a, R: Clock + AllocGlobal> Parts<'a, R> {
             page: server,
         } = opened;
         let (lines, sending, writer) = open_log(alloc).map_err(|_| HostFault::OutOfMemory)?;
-        let (status, page) =
-            page_of(alloc, server, start.as_secs()).map_err(|_| HostFault::OutOfMemory)?;
-        let users = user_desk(alloc, path, config).map_err(|_| HostFault::OutOfMemory)?;
-        let wire =
-            SipWire::new(alloc, config.log, sending, sip).map_err(|_| HostFault::OutOfMemory)?;
+        let (status, page) = page_of(alloc, server, start.as_secs()).map_err(
+            |_| HostFault::OutOfMemory,
+        )?;
+        let users = user_desk(alloc, file, config).map_err(|_| HostFault::OutOfMemory)?;
+        let wire = SipWire::new(alloc, config.log, sending, sip).map_err(
+            |_| HostFault::OutOfMemory,
+        )?;
         Ok(Parts {
             start,
             wire,

@@ -17,7 +17,6 @@ use live::Signalling;
 use relay::{Board, Unopened, Viewer};
 use server::HostFault;
 use sockets::{worker_count, workers_of};
-use std::fs::Files;
 use std::rt::Clock;
 use std::sync::Wait;
 use std::thread::Threads;
@@ -42,7 +41,7 @@ fn board_of<W: Drop>(signalling: Signalling<W>) -> Board {
 }
 
 /// Serves with what stands beside the board and the socket for SIP.
-fn serve_beside<R: Files + Threads + Wait + Sync + Clock + Print + AllocGlobal>(
+fn serve_beside<R: Threads + Wait + Sync + Clock + Print + AllocGlobal>(
     rt: &R,
     config: &Config,
     signalling: &mut Signalling<SipWire>,
@@ -65,7 +64,7 @@ fn serve_beside<R: Files + Threads + Wait + Sync + Clock + Print + AllocGlobal>(
     let counts = Counts::of_workers(alloc, &workers).map_err(|_| HostFault::OutOfMemory)?;
     let workers = each_alone(alloc, workers).map_err(|_| HostFault::OutOfMemory)?;
     let log = EventLog::new(alloc, config.log, MediaLog::new(alloc, counts));
-    let mut troubles = Troubles::new(rt, config, lines, log, desks);
+    let mut troubles = Troubles::new(alloc, config, lines, log, desks);
     let plan = Plan {
         announcer: Announcement { rt, config },
         writer,
@@ -78,7 +77,7 @@ fn serve_beside<R: Files + Threads + Wait + Sync + Clock + Print + AllocGlobal>(
 }
 
 /// Serves on a board to which nothing was published, which is returned.
-fn serve_parts<R: Files + Threads + Wait + Sync + Clock + Print + AllocGlobal>(
+fn serve_parts<R: Threads + Wait + Sync + Clock + Print + AllocGlobal>(
     rt: &R,
     config: &Config,
     parts: Parts<'_, R>,
@@ -102,7 +101,7 @@ fn serve_parts<R: Files + Threads + Wait + Sync + Clock + Print + AllocGlobal>(
 }
 
 /// Serves on a board of its own, which is closed at the end whatever happened.
-pub(crate) fn serve_on_board<R: Files + Threads + Wait + Sync + Clock + Print + AllocGlobal>(
+pub(crate) fn serve_on_board<R: Threads + Wait + Sync + Clock + Print + AllocGlobal>(
     rt: &R,
     config: &Config,
     parts: Parts<'_, R>,

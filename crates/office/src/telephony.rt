@@ -2,6 +2,7 @@
 
 use crate::announcement::warn_of_zeros;
 use crate::counts::counts_line;
+use crate::file_thread::FileEnds;
 use crate::opening::open_all;
 use crate::parts::Parts;
 use crate::refusal::Refusal;
@@ -23,8 +24,8 @@ use std::thread::Threads;
 #[derive(Drop)]
 pub(crate) struct Telephony<'a, R> {
     pub(crate) rt: &'a R,
-    /// The path of the configuration's file, which is checked while telephones are served.
-    pub(crate) path: Option<String>,
+    /// The ends of the thread that looks at the configuration's file while telephones are served.
+    pub(crate) file: Option<FileEnds>,
     /// What was asked for last. Only clauses read it.
     pub(crate) request: Option<(Snapshot<Config>, Option<u64>)>,
     /// Why no sockets were opened, if none were.
@@ -55,7 +56,7 @@ impl<R: Net + Files + Clock + Threads + Wait + Sync + Shared + Print + AllocGlob
                 return Err(refusal.fault());
             }
         };
-        let parts = Parts::new(self.rt, config, opened, self.path.take(), turns)?;
+        let parts = Parts::new(self.rt, config, opened, self.file.take(), turns)?;
         let (tally, ended) = serve_on_board(self.rt, config, parts)?;
         report(&mut self.last_words, self.rt.alloc(), tally);
         ended

@@ -118,30 +118,30 @@ pub(crate) fn serve_all<
     } = plan;
     let flags = Flags::new();
     let shared = &flags;
-    let end = thread::scope(thread::scope_env(), rt, |scope| -> End
-        requires { HasTable signalling.now.board signalling.now.agent }
-    {
-        let mut are_made = scope
-            .spawn(move || writer.run(rt, &shared.is_over))
-            .is_ok();
-        if let Some(page) = page {
-            are_made &= scope
-                .spawn(move || serve_page(rt, page, &shared.is_over))
-                .is_ok();
-        }
-        for worker in workers {
-            are_made &= scope
-                .spawn(move || relay_media(rt, worker, shared))
-                .is_ok();
-        }
-        if !are_made {
+    let end = thread::scope(
+        thread::scope_env(),
+        rt,
+        |scope| -> End
+            requires { HasTable signalling.now.board signalling.now.agent }
+        {
+            let mut are_made = scope.spawn(move || writer.run(rt, &shared.is_over)).is_ok();
+            if let Some(page) = page {
+                are_made &= scope
+                    .spawn(move || serve_page(rt, page, &shared.is_over))
+                    .is_ok();
+            }
+            for worker in workers {
+                are_made &= scope.spawn(move || relay_media(rt, worker, shared)).is_ok();
+            }
+            if !are_made {
+                shared.end();
+                return End::Memory;
+            }
+            announcer.announce();
+            let end = live::serve(rt, signalling, watch, operator, &shared.stop, turns);
             shared.end();
-            return End::Memory;
-        }
-        announcer.announce();
-        let end = live::serve(rt, signalling, watch, operator, &shared.stop, turns);
-        shared.end();
-        end
-    });
+            end
+        },
+    );
     outcome(end, flags.is_refused.load(Ordering::SeqCst))
 }

@@ -14,12 +14,10 @@ use log_rules::{logs_calls, logs_trouble};
 use page_desk::StatusDesk;
 use sip_uri::Addr;
 use std::alloc::Global;
-use std::fs::Files;
 
 /// Writes it to the log.
 #[derive(Drop)]
-pub(crate) struct Troubles<'a, R> {
-    rt: &'a R,
+pub(crate) struct Troubles {
     told: Option<Trouble>,
     /// The news that it handed in. Only clauses read it.
     handed: NewsLog,
@@ -31,21 +29,19 @@ pub(crate) struct Troubles<'a, R> {
     log: EventLog,
     /// Where a page is served, if one is.
     desk: Option<StatusDesk>,
-    /// The check of the configuration's file, if there is a file.
+    /// What is known of the configuration's file, if there is a file.
     users: Option<UserDesk>,
 }
 
-impl<'a, R: Files + AllocGlobal> Troubles<'a, R> {
+impl Troubles {
     pub(crate) fn new(
-        rt: &'a R,
+        alloc: Global,
         config: &Config,
         lines: LogLines,
         log: EventLog,
         desks: Desks,
-    ) -> Troubles<'a, R> {
-        let alloc = rt.alloc();
+    ) -> Troubles {
         Troubles {
-            rt,
             told: None,
             handed: NewsLog::new(alloc),
             silent_minutes: config.silent_minutes,
@@ -78,13 +74,13 @@ impl<'a, R: Files + AllocGlobal> Troubles<'a, R> {
         }
     }
 
-    /// Checks the file of the configuration, if it is time, and logs what changed.
-    fn look_at_file(&mut self, now: u64)
+    /// Takes news of the configuration's file, and logs what changed.
+    fn look_at_file(&mut self)
         ensures told { self.new.told ≡ self.old.told }
         ensures handed { self.new.handed ≡ self.old.handed }
     {
         if let Some(users) = &mut self.users
-            && let Some(line) = users.look(self.rt, now)
+            && let Some(line) = users.look()
         {
             self.put(line.as_bytes());
         }
@@ -128,7 +124,7 @@ impl<'a, R: Files + AllocGlobal> Troubles<'a, R> {
     }
 }
 
-impl<R: Files + AllocGlobal> Operator for Troubles<'_, R> {
+impl Operator for Troubles {
     ghost told = { λ t. t.told };
 
     ghost use Rattle.live.specs.News.{logged};
@@ -136,7 +132,7 @@ impl<R: Files + AllocGlobal> Operator for Troubles<'_, R> {
     ghost handed = { λ t. logged t.handed };
 
     fn news(&mut self, now: u64) -> Option<News> {
-        self.look_at_file(now);
+        self.look_at_file();
         let news = self.find_news(now)?;
         if self.handed.note(&news).is_err() {
             return None;

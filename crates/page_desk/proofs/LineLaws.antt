@@ -1,10 +1,11 @@
 -- The last lines of a text that grows.
-use Rattle.std.proofs.Common.{◌≡◌, ◌≢◌, ℕ, ◌+◌, ◌-◌, ◌<◌, ◌≤◌, Bool, true, false, cond, List, [], ◌∷◌, ◌++◌, drop, get_or, length, ltb, map, take, Result, Ok, Err, OnOk, refl, sym, subst, ap, ◌∙◌, inl, inr, arith}
+use Rattle.std.proofs.Common.{◌≡◌, ◌≢◌, ℕ, ◌+◌, ◌-◌, ◌<◌, ◌≤◌, Bool, true, false, cond, List, [], ◌∷◌, ◌++◌, drop, get_or, length, ltb, map, take, Result, Ok, Err, OnOk, OnErr, refl, sym, subst, ap, ◌∙◌, inl, inr, arith}
 use Rattle.std.specs.List.{All, concat}
 use Rattle.std.proofs.lemmas.Bool.{cases_lt, ltb-true, lt-ltb}
-use Rattle.std.proofs.lemmas.List.{append_assoc, append-nil, drop-append-le, drop-drop, length-append, length-drop, map-append, take_more}
+use Rattle.std.proofs.lemmas.List.{append_assoc, append-nil, drop-append-le, drop-drop, length-append, length-drop, map-append, take-append-le, take-take, take_all, take_more}
 use Rattle.std.proofs.lemmas.List.Elements.{All-nil, All-push}
 use Rattle.std.proofs.lemmas.List.Folds.{concat-append}
+use Rattle.page_desk.specs.Rings.{GoesOn}
 use Rattle.page_desk.specs.Lines.{Contents, IsText, Keeps, Lacks, ended, last_lines, line_feed, max_lines, with_line, with_one}
 
 pub of_nothing : Keeps [] (record { lines = []; rest = [] })
@@ -76,3 +77,30 @@ pub one_byte_more : (text bytes : List ℕ) (i d : ℕ) (kept : Contents) → i 
     → Keeps (text ++ take (i + 1) bytes) kept
 one_byte_more text bytes i d kept within keeps =
     subst (λ t. Keeps t kept) (append_assoc text (take i bytes) (get_or bytes i d ∷ []) ∙ ap (λ t. text ++ t) (sym (take_more bytes i d within))) keeps
+
+-- what is read of a block is what was written to it
+pub of_block : (count len : ℕ) (slice items : List ℕ) → count ≤ length slice → count ≤ len
+    → take count (take len (slice ++ drop (length slice) items)) ≡ take count slice
+of_block count len slice items within fits =
+    take-take count len (slice ++ drop (length slice) items) fits
+    ∙ take-append-le count slice (drop (length slice) items) within
+
+-- the bytes of a block that were taken are added, or its first ones
+pub going_on : {T E : Type 0} (r : Result T E) (before after bytes given : List ℕ) (old new : Contents) → given ≡ bytes → after ≡ before ++ bytes
+    → OnOk r ((text : List ℕ) → Keeps text old → Keeps (text ++ given) new)
+    → OnErr r ((count : ℕ) × (count ≤ length given) × ((text : List ℕ) → Keeps text old → Keeps (text ++ take count given) new))
+    → GoesOn before after old new
+going_on (Ok x) before after bytes given old new same taken all few = record {
+  items = given;
+  count = length given;
+  taken = taken ∙ ap (λ b. before ++ b) (sym same);
+  few = omega arith;
+  goes_on = λ text keeps. subst (λ b. Keeps (text ++ b) new) (sym (take_all (length given) given (omega arith))) (all text keeps);
+}
+going_on (Err e) before after bytes given old new same taken all few = record {
+  items = given;
+  count = few.0;
+  taken = taken ∙ ap (λ b. before ++ b) (sym same);
+  few = few.1;
+  goes_on = few.2;
+}
