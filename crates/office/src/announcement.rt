@@ -1,6 +1,8 @@
-//! The line that says where telephones are served.
+//! What a start says: where telephones are served, and a warning.
 
 use configuration::Config;
+use sockets::LastWords;
+use std::sync::Wait;
 
 /// Announces that telephones are served.
 pub(crate) trait Announcer {
@@ -14,12 +16,15 @@ pub(crate) struct Announcement<'a, R> {
     pub(crate) config: &'a Config,
 }
 
-/// Warns if the key of the random numbers is the example's, which everybody knows.
-pub(crate) fn warn_of_zeros<R: Eprint>(rt: &R, config: &Config) {
+/// The warning.
+const EXAMPLES_KEY: &str =
+    "office: random_key is the example's key of zeros: anyone can guess tags and branches\n";
+
+/// Warns if the key of the random numbers is the example's, which everybody knows. If nobody reads standard error, the
+/// warning is given up within a second.
+pub(crate) fn warn_of_zeros<R: Wait>(rt: &R, config: &Config) {
     if config.random_key == [0; 32] {
-        let _ = eprintln!(rt;
-            "office: random_key is the example's key of zeros: anyone can guess tags and branches"
-        );
+        LastWords::new(rt).put(EXAMPLES_KEY.as_bytes());
     }
 }
 

@@ -6,22 +6,27 @@ mod announcement;
 mod counts;
 mod disk;
 mod event_log;
+mod file_thread;
 mod log_lines;
 mod log_writer;
 mod media_log;
-mod page_desk;
+mod opening;
 mod page_thread;
+mod parts;
 mod port_counts;
 mod refusal;
+mod serving;
 mod shared;
-mod status_desk;
+mod snapshot;
 mod telephony;
+mod threads;
 mod troubles;
 mod user_desk;
 mod watch;
 mod wire;
 
 use crate::disk::Disk;
+use crate::file_thread::{FileEnds, FileThread, file_ends};
 use crate::shared::Shared;
 use crate::telephony::Telephony;
 use server::{Asked, CommandError, Ending, command, run};
@@ -33,8 +38,9 @@ use std::net::Net;
 use std::process::ExitCode;
 use std::rt::{Clock, Env};
 use std::sync::Wait;
+use std::sync::atomic::{AtomicBool, Ordering};
 use std::thread::Threads;
-use std::{env, io};
+use std::{env, io, thread};
 
 /// All words of the command line, starting with the program's own name.
 fn words<R: Env + AllocGlobal>(rt: &R) -> Result<Vec<String>, CommandError> {
@@ -52,54 +58,41 @@ fn words<R: Env + AllocGlobal>(rt: &R) -> Result<Vec<String>, CommandError> {
     Ok(words)
 }
 
-/// The path of the configuration that these words ask to serve, if they do.
-fn path_in(alloc: Global, words: &[&str]) -> Result<Option<String>, AllocError> {
-    match command(alloc, words) {
-        Ok(Asked::Serve { config, .. }) => Ok(Some(config.to_owned(alloc)?)),
+/// The words, lent.
+fn lent(alloc: Global, words: &[String]) -> Result<Vec<&str>, AllocError> {
+    let mut lent = Vec::with_capacity(alloc, words.len())?;
+    for word in words {
+        lent.push(word.as_str())?;
+    }
+    Ok(lent)
+}
+
+/// Both ends of the thread that looks at the file of the configuration that these words ask to serve, if they do.
+fn file_in(alloc: Global, words: &[String]) -> Result<Option<(FileThread, FileEnds)>, AllocError> {
+    match command(alloc, &lent(alloc, words)?) {
+        Ok(Asked::Serve { config, .. }) => Ok(Some(file_ends(alloc, config.to_owned(alloc)?)?)),
         _ => Ok(None),
     }
 }
 
-fn ending<
-    R: Env
-        + Net
-        + Files
-        + Clock
-        + Threads
-        + Wait
-        + Sync
-        + Shared
-        + Input
-        + Print
-        + Eprint
-        + AllocGlobal,
->(rt: &R, telephony: &mut Telephony<'_, R>) -> Result<Ending, CommandError> {
-    let owned = words(rt)?;
-    let mut words = Vec::new(rt.alloc());
-    for word in &owned {
-        words.push(word.as_str())?;
-    }
-    telephony.path = path_in(rt.alloc(), &words)?;
-    let disk = Disk { rt };
+/// Runs what the words ask for.
+fn ending<R: Net + Files + Clock + Threads + Wait + Sync + Shared + Input + Print + AllocGlobal>(
+    rt: &R,
+    words: &[String],
+    telephony: &mut Telephony<'_, R>,
+) -> Result<Ending, CommandError> {
     Ok(run(
         rt.alloc(),
-        &words,
-        &disk,
+        &lent(rt.alloc(), words)?,
+        &Disk { rt },
         telephony,
         &mut rt.reader(),
         &mut io::writer(rt),
     ))
 }
 
-fn main(rt: HostRuntime) -> ExitCode {
-    let mut telephony = Telephony {
-        rt: &rt,
-        path: None,
-        request: None,
-        refusal: None,
-        last_words: LastWords::new(&rt),
-    };
-    let ending = ending(&rt, &mut telephony).unwrap_or_else(Ending::Refused);
+/// Writes what an ending says.
+fn tell<R: Print + Wait>(rt: &R, ending: &Ending, telephony: &mut Telephony<'_, R>) {
     if let Some(help) = ending.help() {
         let _ = print!(rt; "{help}");
     }
@@ -112,5 +105,36 @@ fn main(rt: HostRuntime) -> ExitCode {
     if let Some(refusal) = telephony.refusal {
         let _ = writeln!(telephony.last_words, "{refusal}");
     }
+}
+
+fn main(rt: HostRuntime) -> ExitCode {
+    let mut telephony = Telephony {
+        rt: &rt,
+        file: None,
+        request: None,
+        refusal: None,
+        last_words: LastWords::new(&rt),
+    };
+    let over = AtomicBool::new(false);
+    let (runtime, is_over) = (&rt, &over);
+    // Only here may what is sent to a thread read files.
+    let ending = thread::scope(
+        thread::scope_env(),
+        &rt,
+        |scope| -> Result<Ending, CommandError> {
+            let words = words(runtime)?;
+            if let Some((file, ends)) = file_in(runtime.alloc(), &words)? {
+                telephony.file = Some(ends);
+                if scope.spawn(move || file.run(runtime, is_over)).is_err() {
+                    return Err(CommandError::OutOfMemory);
+                }
+            }
+            let ending = ending(runtime, &words, &mut telephony);
+            is_over.store(true, Ordering::SeqCst);
+            ending
+        },
+    );
+    let ending = ending.unwrap_or_else(Ending::Refused);
+    tell(&rt, &ending, &mut telephony);
     ExitCode::from(ending.status())
 }

@@ -1,9 +1,9 @@
 //! The thread of the page.
 
-use crate::page_desk::PageDesk;
+use page_desk::PageDesk;
 use page_server::PageServer;
 use std::sync::Wait;
-use std::sync::atomic::{AtomicBool, AtomicUsize, Ordering};
+use std::sync::atomic::{AtomicBool, Ordering};
 
 /// How many milliseconds it waits for a request.
 const WAIT: u64 = 100;
@@ -19,7 +19,7 @@ pub(crate) struct Page {
 }
 
 /// Serves the page until the flag is set.
-fn run<R: Wait>(rt: &R, page: Page, is_over: &AtomicBool) {
+pub(crate) fn serve_page<R: Wait>(rt: &R, page: Page, is_over: &AtomicBool) {
     let Page {
         mut server,
         mut desk,
@@ -34,18 +34,5 @@ fn run<R: Wait>(rt: &R, page: Page, is_over: &AtomicBool) {
             Ok(()) => 0,
             Err(_) => refused + 1,
         };
-    }
-}
-
-/// Serves the page until the flag is set, if there is a page.
-pub(crate) fn serve_page<R: Wait>(
-    rt: &R,
-    page: Option<Page>,
-    begun: &AtomicUsize,
-    is_over: &AtomicBool,
-) {
-    begun.fetch_add(1, Ordering::SeqCst);
-    if let Some(page) = page {
-        run(rt, page, is_over);
     }
 }

@@ -4,21 +4,21 @@ ghost use Rattle.std.specs.Prelude.{◌≡◌};
 
 use crate::event_log::EventLog;
 use crate::log_lines::LogLines;
-use crate::status_desk::StatusDesk;
+use crate::parts::Desks;
+use crate::snapshot::show;
 use crate::user_desk::UserDesk;
 use agent::Agent;
-use configuration::LogLevel;
+use configuration::{Config, LogLevel};
 use live::{News, NewsLog, Operator, Report, ReportLog, Trouble};
 use log_rules::{logs_calls, logs_trouble};
+use page_desk::StatusDesk;
 use sip_uri::Addr;
 use std::alloc::Global;
-use std::fs::Files;
 use std::snapshot::Snapshot;
 
 /// Writes it to the log.
 #[derive(Drop)]
-pub(crate) struct Troubles<'a, R> {
-    rt: &'a R,
+pub(crate) struct Troubles {
     /// What it was asked and told, and the news that it handed in. Only clauses read them.
     told: ReportLog,
     handed: NewsLog,
@@ -30,32 +30,28 @@ pub(crate) struct Troubles<'a, R> {
     log: EventLog,
     /// Where a page is served, if one is.
     desk: Option<StatusDesk>,
-    /// The check of the configuration's file, if there is a file.
+    /// What is known of the configuration's file, if there is a file.
     users: Option<UserDesk>,
 }
 
-impl<'a, R: Files + AllocGlobal> Troubles<'a, R> {
+impl Troubles {
     pub(crate) fn new(
-        rt: &'a R,
         alloc: Global,
-        level: LogLevel,
-        silent_minutes: Option<u32>,
+        config: &Config,
         lines: LogLines,
         log: EventLog,
-        desk: Option<StatusDesk>,
-        users: Option<UserDesk>,
-    ) -> Troubles<'a, R> {
+        desks: Desks,
+    ) -> Troubles {
         Troubles {
-            rt,
             told: ReportLog::new(),
             handed: NewsLog::new(alloc),
-            silent_minutes,
-            level,
+            silent_minutes: config.silent_minutes,
+            level: config.log,
             alloc,
             lines,
             log,
-            desk,
-            users,
+            desk: desks.page,
+            users: desks.users,
         }
     }
 
@@ -79,13 +75,13 @@ impl<'a, R: Files + AllocGlobal> Troubles<'a, R> {
         }
     }
 
-    /// Checks the file of the configuration, if it is time, and logs what changed.
-    fn look_at_file(&mut self, now: u64)
+    /// Takes news of the configuration's file, and logs what changed.
+    fn look_at_file(&mut self)
         ensures told { self.new.told ≡ self.old.told }
         ensures handed { self.new.handed ≡ self.old.handed }
     {
         if let Some(users) = &mut self.users
-            && let Some(line) = users.look(self.rt, now)
+            && let Some(line) = users.look()
         {
             self.put(line.as_bytes());
         }
@@ -124,12 +120,12 @@ impl<'a, R: Files + AllocGlobal> Troubles<'a, R> {
         ensures handed { self.new.handed ≡ self.old.handed }
     {
         if let Some(desk) = &mut self.desk {
-            desk.look(agent, &mut self.log.media, now);
+            show(self.alloc, desk, agent, &mut self.log.media, now);
         }
     }
 }
 
-impl<R: Files + AllocGlobal> Operator for Troubles<'_, R> {
+impl Operator for Troubles {
     ghost told = { λ t. t.told.entries };
 
     ghost use Rattle.live.specs.News.{logged};
@@ -138,7 +134,7 @@ impl<R: Files + AllocGlobal> Operator for Troubles<'_, R> {
 
     fn news(&mut self, now: u64) -> Option<News> {
         self.told.note(&Report::Asked(now));
-        self.look_at_file(now);
+        self.look_at_file();
         let news = self.find_news(now)?;
         if self.handed.note(&news).is_err() {
             return None;

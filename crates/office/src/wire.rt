@@ -20,9 +20,8 @@ pub(crate) struct SipWire {
     level: LogLevel,
     refusals: Refusals,
     pub(crate) socket: SipSocket,
-    /// The room for each datagram, and the waits that it was asked for. Only clauses read them.
+    /// The room for each datagram. Only clauses read it.
     pub(crate) rooms: NumberLog,
-    pub(crate) waited: NumberLog,
 }
 
 /// The line for a refusal that begins.
@@ -54,7 +53,6 @@ impl SipWire {
             refusals: Refusals::new(alloc)?,
             socket,
             rooms: NumberLog::new(),
-            waited: NumberLog::new(),
         })
     }
 
@@ -62,7 +60,6 @@ impl SipWire {
     fn put(&mut self, line: Result<String, AllocError>)
         ensures socket { self.new.socket ≡ self.old.socket }
         ensures rooms { self.new.rooms.entries ≡ self.old.rooms.entries }
-        ensures waited { self.new.waited.entries ≡ self.old.waited.entries }
     {
         if let Ok(line) = line
             && logs_trouble(self.level)
@@ -75,7 +72,6 @@ impl SipWire {
     fn tell_sent(&mut self, to: Addr)
         ensures socket { self.new.socket ≡ self.old.socket }
         ensures rooms { self.new.rooms.entries ≡ self.old.rooms.entries }
-        ensures waited { self.new.waited.entries ≡ self.old.waited.entries }
     {
         if let Some(refusal) = self.refusals.sent(to) {
             self.put(end_line(self.alloc, refusal));
@@ -86,7 +82,6 @@ impl SipWire {
     fn tell_refused(&mut self, to: Addr, why: ErrorKind)
         ensures socket { self.new.socket ≡ self.old.socket }
         ensures rooms { self.new.rooms.entries ≡ self.old.rooms.entries }
-        ensures waited { self.new.waited.entries ≡ self.old.waited.entries }
     {
         if let Some(refusal) = self.refusals.refused(to, why) {
             self.put(begin_line(self.alloc, refusal));
@@ -104,7 +99,7 @@ impl Wire for SipWire {
         asked = map (λ d. record { to = record { ip = d.ip; port = d.port }; bytes = d.bytes }) s.socket.asked;
         sent = map (λ d. record { to = record { ip = d.ip; port = d.port }; bytes = d.bytes }) s.socket.sent;
       };
-      waited = s.waited.entries;
+      waited = s.socket.waited;
       failed = s.socket.failed;
     } };
 
@@ -127,7 +122,6 @@ impl Wire for SipWire {
     }
 
     fn wait(&mut self, millis: u64) -> Result<(), WireFault> {
-        self.waited.note(millis);
         self.socket.wait(millis).map_err(|_| WireFault)
     }
 }

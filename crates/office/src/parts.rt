@@ -1,0 +1,145 @@
+//! What a server is made of, before it has a board.
+
+use crate::file_thread::FileEnds;
+use crate::log_lines::LogLines;
+use crate::log_writer::LogWriter;
+use crate::opening::Opened;
+use crate::page_thread::Page;
+use crate::user_desk::UserDesk;
+use crate::watch::Watch;
+use crate::wire::SipWire;
+use configuration::Config;
+use page_desk::{StatusDesk, desks};
+use page_server::PageServer;
+use rtrb::RingBuffer;
+use server::{HostFault, VERSION};
+use sockets::{ErrorStream, RelaySockets, Sockets};
+use std::alloc::{AllocError, Global};
+use std::io;
+use std::rt::Clock;
+use std::time::Duration;
+
+/// How many bytes of lines wait to be written at most: those of events, and those of the socket for SIP.
+const ROOM_OF_EVENTS: usize = 262_144;
+
+const ROOM_OF_SENDING: usize = 16_384;
+
+/// What the signalling hands on and looks at beside its events.
+#[derive(Drop)]
+pub(crate) struct Desks {
+    /// Where a page is served, if one is.
+    pub(crate) page: Option<StatusDesk>,
+    /// What is known of the configuration's file, if there is a file.
+    pub(crate) users: Option<UserDesk>,
+}
+
+/// What serves beside the board and the socket for SIP.
+#[derive(Drop)]
+pub(crate) struct Beside<'a, R> {
+    pub(crate) watch: Watch<'a, R>,
+    pub(crate) relay: RelaySockets,
+    pub(crate) lines: LogLines,
+    pub(crate) writer: LogWriter,
+    pub(crate) desks: Desks,
+    pub(crate) page: Option<Page>,
+    /// For how many rounds telephones are served, if not for good.
+    pub(crate) turns: Option<u64>,
+}
+
+/// What a server is made of.
+#[derive(Drop)]
+pub(crate) struct Parts<'a, R> {
+    /// The time since 1970 at the start.
+    pub(crate) start: Duration,
+    pub(crate) wire: SipWire,
+    pub(crate) beside: Beside<'a, R>,
+}
+
+fn host_fault(error: io::Error) -> HostFault {
+    if error.kind() == io::ErrorKind::OutOfMemory {
+        HostFault::OutOfMemory
+    } else {
+        HostFault::Socket
+    }
+}
+
+/// The log: the end for the lines of events, that for those of the socket for SIP, and what writes both.
+fn open_log(alloc: Global) -> Result<(LogLines, LogLines, LogWriter), AllocError> {
+    let (events, events_out) = RingBuffer::new(alloc, ROOM_OF_EVENTS)?;
+    let (sending, sending_out) = RingBuffer::new(alloc, ROOM_OF_SENDING)?;
+    let writer = LogWriter::new(alloc, events_out, sending_out, ErrorStream::new())?;
+    Ok((
+        LogLines::new(alloc, events),
+        LogLines::new(alloc, sending),
+        writer,
+    ))
+}
+
+/// The end of the signalling, and what the page's thread has, if there is a page.
+fn page_of(
+    alloc: Global,
+    server: Option<PageServer>,
+    started: u64,
+) -> Result<(Option<StatusDesk>, Option<Page>), AllocError> {
+    let Some(server) = server else {
+        return Ok((None, None));
+    };
+    let (status, desk) = desks(alloc, VERSION, started)?;
+    Ok((Some(status), Some(Page { server, desk })))
+}
+
+/// What the signalling has of the configuration's file, if a thread looks at it.
+fn user_desk(
+    alloc: Global,
+    file: Option<FileEnds>,
+    config: &Config,
+) -> Result<Option<UserDesk>, AllocError> {
+    match file {
+        Some(file) => Ok(Some(UserDesk::new(alloc, file, config.users.as_slice())?)),
+        None => Ok(None),
+    }
+}
+
+impl<'a, R: Clock + AllocGlobal> Parts<'a, R> {
+    /// The parts of a server with these sockets, and with a thread that looks at the file of its configuration, if there
+    /// is one.
+    pub(crate) fn new(
+        rt: &'a R,
+        config: &Config,
+        opened: Opened,
+        file: Option<FileEnds>,
+        turns: Option<u64>,
+    ) -> Result<Parts<'a, R>, HostFault> {
+        let alloc = rt.alloc();
+        let watch = Watch::new(rt).map_err(host_fault)?;
+        let start = rt.since_1970().map_err(host_fault)?;
+        let Opened {
+            sockets: Sockets { sip, relay },
+            page: server,
+        } = opened;
+        let (lines, sending, writer) = open_log(alloc).map_err(|_| HostFault::OutOfMemory)?;
+        let (status, page) = page_of(alloc, server, start.as_secs()).map_err(
+            |_| HostFault::OutOfMemory,
+        )?;
+        let users = user_desk(alloc, file, config).map_err(|_| HostFault::OutOfMemory)?;
+        let wire = SipWire::new(alloc, config.log, sending, sip).map_err(
+            |_| HostFault::OutOfMemory,
+        )?;
+        Ok(Parts {
+            start,
+            wire,
+            beside: Beside {
+                watch,
+                relay,
+                lines,
+                writer,
+                desks: Desks {
+                    page: status,
+                    users,
+                },
+                page,
+                turns,
+            },
+        })
+    }
+}

@@ -1,0 +1,116 @@
+//! The board, and what is served on it.
+
+ghost use Rattle.std.specs.Prelude.{◌≡◌, []};
+ghost use Rattle.live.specs.Turns.{HasTable};
+
+use crate::announcement::Announcement;
+use crate::event_log::EventLog;
+use crate::media_log::MediaLog;
+use crate::parts::{Beside, Parts};
+use crate::port_counts::Counts;
+use crate::threads::{Plan, each_alone, serve_all};
+use crate::troubles::Troubles;
+use crate::wire::SipWire;
+use agent::Tally;
+use configuration::Config;
+use live::Signalling;
+use relay::{Board, Unopened, Viewer};
+use server::HostFault;
+use sockets::{worker_count, workers_of};
+use std::rt::Clock;
+use std::sync::Wait;
+use std::thread::Threads;
+
+/// How events were answered, and how it ended.
+pub(crate) type Served = (Tally, Result<(), HostFault>);
+
+/// The board of a signalling that is over.
+fn board_of<W: Drop>(signalling: Signalling<W>) -> Board {
+    let Signalling {
+        alloc: _,
+        agent,
+        board,
+        wire,
+        salts: _,
+        buffer,
+    } = signalling;
+    drop(agent);
+    drop(wire);
+    drop(buffer);
+    board
+}
+
+/// Serves with what stands beside the board and the socket for SIP.
+fn serve_beside<R: Threads + Wait + Sync + Clock + Print + AllocGlobal>(
+    rt: &R,
+    config: &Config,
+    signalling: &mut Signalling<SipWire>,
+    beside: Beside<'_, R>,
+    viewers: Vec<Viewer>,
+) -> Result<Served, HostFault>
+    requires { HasTable signalling.old.board signalling.old.agent }
+{
+    let alloc = rt.alloc();
+    let Beside {
+        mut watch,
+        relay,
+        lines,
+        writer,
+        desks,
+        page,
+        turns,
+    } = beside;
+    let workers = workers_of(alloc, relay, viewers).map_err(|_| HostFault::OutOfMemory)?;
+    let counts = Counts::of_workers(alloc, &workers).map_err(|_| HostFault::OutOfMemory)?;
+    let workers = each_alone(alloc, workers).map_err(|_| HostFault::OutOfMemory)?;
+    let log = EventLog::new(alloc, config.log, MediaLog::new(alloc, counts));
+    let mut troubles = Troubles::new(alloc, config, lines, log, desks);
+    let plan = Plan {
+        announcer: Announcement { rt, config },
+        writer,
+        page,
+        workers,
+        turns,
+    };
+    let ended = serve_all(rt, plan, signalling, &mut watch, &mut troubles);
+    Ok((signalling.agent.tally(), ended))
+}
+
+/// Serves on a board to which nothing was published, which is returned.
+fn serve_parts<R: Threads + Wait + Sync + Clock + Print + AllocGlobal>(
+    rt: &R,
+    config: &Config,
+    parts: Parts<'_, R>,
+    board: Board,
+    viewers: Vec<Viewer>,
+) -> (Board, Result<Served, HostFault>)
+    requires { board ≡ [] }
+{
+    let Parts {
+        start,
+        wire,
+        beside,
+    } = parts;
+    match Signalling::new(rt.alloc(), config, board, wire, start) {
+        Ok(mut signalling) => {
+            let served = serve_beside(rt, config, &mut signalling, beside, viewers);
+            (board_of(signalling), served)
+        }
+        Err((board, _)) => (board, Err(HostFault::OutOfMemory)),
+    }
+}
+
+/// Serves on a board of its own, which is closed at the end whatever happened.
+pub(crate) fn serve_on_board<R: Threads + Wait + Sync + Clock + Print + AllocGlobal>(
+    rt: &R,
+    config: &Config,
+    parts: Parts<'_, R>,
+) -> Result<Served, HostFault> {
+    let (board, served) = match Board::new(rt.alloc(), worker_count(config)) {
+        Ok((board, viewers)) => serve_parts(rt, config, parts, board, viewers),
+        Err(Unopened::NoViewer(board)) => (board, Err(HostFault::OutOfMemory)),
+        Err(Unopened::Memory) => return Err(HostFault::OutOfMemory),
+    };
+    board.close(rt);
+    served
+}

@@ -1,0 +1,4 @@
+pub mod Latest
+pub mod Lines
+pub mod Rings
+pub mod Snapshots
