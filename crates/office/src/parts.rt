@@ -101,8 +101,8 @@ fn user_desk(
 }
 
 impl<'a, R: Clock + AllocGlobal> Parts<'a, R> {
-    /// The parts of a server with these sockets, and with a thread that looks at the file of its configuration, if there
-    /// is one.
+    /// The parts of a server with these sockets, and with a thread that looks at the file of its configuration, if
+    /// there is one.
     pub(crate) fn new(
         rt: &'a R,
         config: &Config,
