@@ -15,6 +15,8 @@ BUSY, FEW = 100, 5
 SOON, ENDED = 0.5, 2
 # The exit status where receiving fails; and how often it has to fail in a row, which takes as many datagrams.
 NO_SOCKET, FAILURES = 5, 100
+# The example's key, of which a start warns.
+EXAMPLES_KEY = "0" * 64
 
 
 def keep_last_lines(program):
@@ -52,8 +54,9 @@ def full_pipe():
 
 
 def end_unread(program):
-    """A server that has to end does so where nobody reads its standard error."""
-    with full_pipe() as error, started(program, workers=1, turns=FEW, error=error) as office:
+    """A server that has something to say at its start and its end starts and ends where nobody reads its standard
+    error."""
+    with full_pipe() as error, started(program, workers=1, turns=FEW, error=error, key=EXAMPLES_KEY) as office:
         expect(office.listens(), "it listens")
         begun = time.monotonic()
         status = office.process.wait(slowed(SECONDS))

@@ -93,15 +93,15 @@ class Office:
         return made
 
 
-def configuration(first, workers, further):
+def configuration(first, workers, further, key):
     """The SIP port is the first of the server's; the second is for a page; the relay has all from the third on."""
     return (f'ip = "{IP}"\nsip_port = {first}\ndomain = "{DOMAIN}"\nusers = {json.dumps(USERS)}\n'
             f'relay_first = {first + 2}\nrelay_pairs = {PAIRS}\nmin_expires = 60\nworkers = {workers}\n'
-            f'random_key = "{KEY}"\n{further}')
+            f'random_key = "{key}"\n{further}')
 
 
 @contextlib.contextmanager
-def started(program, workers, further="", has_page=False, limits=(), turns=0, error=None, prepare=None):
+def started(program, workers, further="", has_page=False, limits=(), turns=0, error=None, prepare=None, key=KEY):
     """An office whose server starts with these workers and further lines of its configuration, by a command that begins
     with the words of limits. It ends after as many turns, where there are any; writes to this error, or else to a file;
     and its process is prepared by this function."""
@@ -109,7 +109,7 @@ def started(program, workers, further="", has_page=False, limits=(), turns=0, er
         first = kept.enter_context(reserved(IP, 2 + 2 * PAIRS))
         error = error or kept.enter_context(tempfile.TemporaryFile("w+"))
         config = kept.enter_context(tempfile.NamedTemporaryFile("w", suffix=".toml"))
-        config.write(configuration(first, workers, further + (f'status = "{IP}:{first + 1}"\n' if has_page else "")))
+        config.write(configuration(first, workers, further + (f'status = "{IP}:{first + 1}"\n' if has_page else ""), key))
         config.flush()
         os.chmod(config.name, 0o644)
         words = [*limits, program, "serve", "--config", config.name, *(["--turns", str(turns)] if turns else [])]

@@ -1,5 +1,6 @@
 //! What a server is made of, before it has a board.
 
+use crate::announcement::Announcement;
 use crate::file_thread::FileEnds;
 use crate::log_lines::LogLines;
 use crate::log_writer::LogWriter;
@@ -35,8 +36,9 @@ pub(crate) struct Desks {
 
 /// What serves beside the board and the socket for SIP.
 #[derive(Drop)]
-pub(crate) struct Beside<'a, R> {
-    pub(crate) watch: Watch<'a, R>,
+pub(crate) struct Beside<A, M> {
+    pub(crate) announcer: A,
+    pub(crate) watch: M,
     pub(crate) relay: RelaySockets,
     pub(crate) lines: LogLines,
     pub(crate) writer: LogWriter,
@@ -48,11 +50,12 @@ pub(crate) struct Beside<'a, R> {
 
 /// What a server is made of.
 #[derive(Drop)]
-pub(crate) struct Parts<'a, R> {
+pub(crate) struct Parts<A, M> {
+    pub(crate) alloc: Global,
     /// The time since 1970 at the start.
     pub(crate) start: Duration,
     pub(crate) wire: SipWire,
-    pub(crate) beside: Beside<'a, R>,
+    pub(crate) beside: Beside<A, M>,
 }
 
 fn host_fault(error: io::Error) -> HostFault {
@@ -100,16 +103,16 @@ fn user_desk(
     }
 }
 
-impl<'a, R: Clock + AllocGlobal> Parts<'a, R> {
+impl<'a, R: Clock + AllocGlobal> Parts<Announcement<'a, R>, Watch<'a, R>> {
     /// The parts of a server with these sockets, and with a thread that looks at the file of its configuration, if
     /// there is one.
     pub(crate) fn new(
         rt: &'a R,
-        config: &Config,
+        config: &'a Config,
         opened: Opened,
         file: Option<FileEnds>,
         turns: Option<u64>,
-    ) -> Result<Parts<'a, R>, HostFault> {
+    ) -> Result<Parts<Announcement<'a, R>, Watch<'a, R>>, HostFault> {
         let alloc = rt.alloc();
         let watch = Watch::new(rt).map_err(host_fault)?;
         let start = rt.since_1970().map_err(host_fault)?;
@@ -126,9 +129,11 @@ impl<'a, R: Clock + AllocGlobal> Parts<'a, R> {
             |_| HostFault::OutOfMemory,
         )?;
         Ok(Parts {
+            alloc,
             start,
             wire,
             beside: Beside {
+                announcer: Announcement { rt, config },
                 watch,
                 relay,
                 lines,

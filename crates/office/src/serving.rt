@@ -3,7 +3,7 @@
 ghost use Rattle.std.specs.Prelude.{◌≡◌, []};
 ghost use Rattle.live.specs.Turns.{HasTable};
 
-use crate::announcement::Announcement;
+use crate::announcement::Announcer;
 use crate::event_log::EventLog;
 use crate::media_log::MediaLog;
 use crate::parts::{Beside, Parts};
@@ -13,11 +13,10 @@ use crate::troubles::Troubles;
 use crate::wire::SipWire;
 use agent::Tally;
 use configuration::Config;
-use live::Signalling;
+use live::{Clock as Moments, Signalling};
 use relay::{Board, Unopened, Viewer};
 use server::HostFault;
 use sockets::{worker_count, workers_of};
-use std::rt::Clock;
 use std::sync::Wait;
 use std::thread::Threads;
 
@@ -41,17 +40,18 @@ fn board_of<W: Drop>(signalling: Signalling<W>) -> Board {
 }
 
 /// Serves with what stands beside the board and the socket for SIP.
-fn serve_beside<R: Threads + Wait + Sync + Clock + Print + AllocGlobal>(
+fn serve_beside<R: Threads + Wait + Sync, A: Announcer + Drop, M: Moments + Drop>(
     rt: &R,
     config: &Config,
     signalling: &mut Signalling<SipWire>,
-    beside: Beside<'_, R>,
+    beside: Beside<A, M>,
     viewers: Vec<Viewer>,
 ) -> Result<Served, HostFault>
     requires { HasTable signalling.old.board signalling.old.agent }
 {
-    let alloc = rt.alloc();
+    let alloc = signalling.alloc;
     let Beside {
+        announcer,
         mut watch,
         relay,
         lines,
@@ -66,7 +66,7 @@ fn serve_beside<R: Threads + Wait + Sync + Clock + Print + AllocGlobal>(
     let log = EventLog::new(alloc, config.log, MediaLog::new(alloc, counts));
     let mut troubles = Troubles::new(alloc, config, lines, log, desks);
     let plan = Plan {
-        announcer: Announcement { rt, config },
+        announcer,
         writer,
         page,
         workers,
@@ -77,21 +77,22 @@ fn serve_beside<R: Threads + Wait + Sync + Clock + Print + AllocGlobal>(
 }
 
 /// Serves on a board to which nothing was published, which is returned.
-fn serve_parts<R: Threads + Wait + Sync + Clock + Print + AllocGlobal>(
+fn serve_parts<R: Threads + Wait + Sync, A: Announcer + Drop, M: Moments + Drop>(
     rt: &R,
     config: &Config,
-    parts: Parts<'_, R>,
+    parts: Parts<A, M>,
     board: Board,
     viewers: Vec<Viewer>,
 ) -> (Board, Result<Served, HostFault>)
     requires { board ≡ [] }
 {
     let Parts {
+        alloc,
         start,
         wire,
         beside,
     } = parts;
-    match Signalling::new(rt.alloc(), config, board, wire, start) {
+    match Signalling::new(alloc, config, board, wire, start) {
         Ok(mut signalling) => {
             let served = serve_beside(rt, config, &mut signalling, beside, viewers);
             (board_of(signalling), served)
@@ -101,12 +102,12 @@ fn serve_parts<R: Threads + Wait + Sync + Clock + Print + AllocGlobal>(
 }
 
 /// Serves on a board of its own, which is closed at the end whatever happened.
-pub(crate) fn serve_on_board<R: Threads + Wait + Sync + Clock + Print + AllocGlobal>(
+pub(crate) fn serve_on_board<R: Threads + Wait + Sync, A: Announcer + Drop, M: Moments + Drop>(
     rt: &R,
     config: &Config,
-    parts: Parts<'_, R>,
+    parts: Parts<A, M>,
 ) -> Result<Served, HostFault> {
-    let (board, served) = match Board::new(rt.alloc(), worker_count(config)) {
+    let (board, served) = match Board::new(parts.alloc, worker_count(config)) {
         Ok((board, viewers)) => serve_parts(rt, config, parts, board, viewers),
         Err(Unopened::NoViewer(board)) => (board, Err(HostFault::OutOfMemory)),
         Err(Unopened::Memory) => return Err(HostFault::OutOfMemory),
