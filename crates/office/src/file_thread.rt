@@ -16,7 +16,7 @@ use user_file::{FileReport, UserFile};
 /// How many milliseconds are waited at once.
 const WAIT: u64 = 100;
 
-/// After this many waits the file is looked at again: two seconds.
+/// After this many waits the file is looked at again: after two seconds.
 const WAITS_BETWEEN_LOOKS: u32 = 20;
 
 /// Other users of the file: how many were added, and how many removed.
@@ -164,21 +164,26 @@ impl FileThread {
         is_over: &AtomicBool,
     ) {
         let mut file: Option<UserFile> = None;
-        let mut waits: u32 = 0;
+        // How many waits are left until the next look.
+        let mut left: u32 = 0;
         for _ in rt.forever() {
             if is_over.load(Ordering::SeqCst) {
                 return;
             }
             if let Ok(begun) = self.begun.pop() {
                 file = Some(begun);
-                waits = 0;
+                left = 0;
             }
-            if waits == 0
+            if left == 0
                 && let Some(file) = &mut file
             {
                 self.hand_over(rt, file);
             }
-            waits = (waits + 1) % WAITS_BETWEEN_LOOKS;
+            left = if left == 0 {
+                WAITS_BETWEEN_LOOKS - 1
+            } else {
+                left - 1
+            };
             thread::sleep(rt, Duration::from_millis(WAIT));
         }
     }
