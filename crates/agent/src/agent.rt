@@ -94,7 +94,7 @@ impl Model for Agent {
 
     ghost coded = { Prim.hlevel (codes, coded_contents) };
 
-    ghost view = { λ a. record { registrar = a.registrar; table = a.table; calls = standing a.calls; acks = a.acks.items; changes = a.changes.items; server = a.server; range = a.range; least = a.least; lifetime = a.lifetime; moment = a.moment; tokens = a.tokens; tally = a.tally; note = a.note; registered = a.registered } };
+    ghost view = { λ a. record { registrar = a.registrar; table = a.table; calls = standing a.calls; acks = a.acks.items; changes = a.changes.items; server = a.server; range = a.range; least = a.least; lifetime = a.lifetime; moment = a.moment; tokens = a.tokens; tally = a.tally; note = a.note; registered = a.registered; calls_key = a.calls.key } };
 
     ghost invariant = { λ a. IsCounted a.moment a.tokens a.calls.begun a.range };
 }

@@ -73,6 +73,7 @@ pub(crate) fn stop(calls: &mut Calls, fired: Option<CallTimerId>)
     ensures pool { calls.new.pool ≡ calls.old.pool }
     ensures room { calls.old.room ≤ calls.new.room }
     ensures timer_room { calls.old.timer_room ≤ calls.new.timer_room }
+    ensures key { calls.new.key ≡ calls.old.key }
 {
     if let Some(timer) = fired {
         calls.stop_timer(timer);
@@ -98,6 +99,7 @@ fn lifetime_begun(note: Note) -> Option<u64>
 pub(crate) fn limit(calls: &mut Calls, lifetime: Option<u64>, now: u64, note: Note)
     requires { 0 < calls.old.timer_room }
     ensures standing { standing calls.new ≡ with_lifetime lifetime now note (standing calls.old) }
+    ensures key { calls.new.key ≡ calls.old.key }
 {
     if let (Some(lifetime), Some(number)) = (lifetime, lifetime_begun(note)) {
         let timer = CallTimer::Lifetime;

@@ -4,7 +4,7 @@ ghost use Rattle.std.specs.Prelude.{◌≡◌, [], IfOk, IfErr, OnOk};
 ghost use Rattle.configuration.specs.Rules.{KeepsRules};
 ghost use Rattle.registrar.specs.Registrar.{StandsAfter};
 ghost use Rattle.event_rows.specs.Lifetimes.{lifetime_of};
-ghost use Rattle.event_rows.specs.State.{IsNew, RefusesConfig, binding_rules_of, range_of, rules_by, server_of, table_rules_of};
+ghost use Rattle.event_rows.specs.State.{HasKey, IsNew, RefusesConfig, binding_rules_of, range_of, rules_by, server_of, table_rules_of};
 ghost use Rattle.media_laws.specs.Standing.{AgentStands};
 
 use crate::agent::Agent;
@@ -47,7 +47,8 @@ fn binding_rules_of(config: &Config) -> BindingRules
 
 fn registrar_of(alloc: Global, key: PrintKey, config: &Config) -> Result<Registrar, AllocError>
     requires { KeepsRules config.now }
-    ensures { IfOk result (λ r. StandsAfter r (rules_by config.now) []) }
+    ensures stands { IfOk result (λ r. StandsAfter r (rules_by config.now) []) }
+    ensures key { IfOk result (λ r. r.key ≡ key) }
 {
     let users = kept_texts(alloc, config.users.as_slice())?;
     let domain = config.domain_text(alloc)?;
@@ -103,11 +104,12 @@ fn lifetime_of(config: &Config) -> Option<u64>
 
 impl Agent {
     /// An agent to which nothing has happened, which stands after the empty trace. The configuration keeps the rules,
-    /// or the first that it breaks is returned. Transactions, calls and users are looked up by prints under this key,
-    /// which no clause here or elsewhere mentions: so what is sent doesn't depend on it.
+    /// or the first that it breaks is returned. Transactions, calls and users are looked up by prints under this key.
+    /// No clause on what is sent mentions it, so that doesn't depend on the key.
     pub fn new(alloc: Global, key: PrintKey, config: &Config) -> Result<Agent, ConfigError>
         ensures new { IfOk result (IsNew config.now) }
         ensures stands { IfOk result (λ agent. AgentStands agent [] 0) }
+        ensures key { IfOk result (HasKey key) }
         ensures kept { OnOk result (KeepsRules config.now) }
         ensures refused { IfErr result (RefusesConfig config.now) }
     {
@@ -119,6 +121,7 @@ impl Agent {
     #[tactic(auto, using(crate::proofs::ConfigLaws::refuses))]
     fn made(alloc: Global, key: PrintKey, config: &Config) -> Result<Agent, ConfigError>
         ensures new { IfOk result (IsNew config.now) }
+        ensures key { IfOk result (HasKey key) }
         ensures kept { OnOk result (KeepsRules config.now) }
         ensures refused { IfErr result (RefusesConfig config.now) }
     {

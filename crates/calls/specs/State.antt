@@ -1,5 +1,6 @@
 -- The live calls, with the pool that serves them.
 use Rattle.std.specs.Prelude.{◌≡◌, ℕ, ◌<◌, ◌≤◌, false, List, [], ◌∷◌}
+use Rattle.index.specs.declared.print.PrintKey.{PrintKey}
 use Rattle.port_pool.specs.Pool as pools
 use Rattle.call_core.specs.Calls.{IsServed}
 use Rattle.timers.specs.declared.timers.Timer.{Timer}
@@ -7,7 +8,8 @@ use Rattle.calls.specs.declared.timer_id.CallTimerId.{CallTimerId}
 use Rattle.calls.specs.declared.standing_call.StandingCall.{StandingCall}
 
 -- the calls in the order in which they began, the pool, how many calls began, and the timers of calls, the first due
--- first; with them, for how many more calls and timers there is room
+-- first; with them, for how many more calls and timers there is room, and the key of the prints under which calls are
+-- looked up
 pub record Contents : Type 0 where
   pub calls : List StandingCall
   pub pool : pools.Contents
@@ -15,8 +17,9 @@ pub record Contents : Type 0 where
   pub timers : List (Timer CallTimerId)
   pub room : ℕ
   pub timer_room : ℕ
+  pub key : PrintKey
 
--- all of it but the room
+-- all of it but the room and the key
 pub record Standing : Type 0 where
   pub calls : List StandingCall
   pub pool : pools.Contents

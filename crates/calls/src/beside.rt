@@ -80,6 +80,7 @@ impl Calls {
         ensures begun { self.new.begun ≡ self.old.begun }
         ensures timers { self.new.timers ≡ self.old.timers }
         ensures timer_left { self.new.timer_room ≡ self.old.timer_room }
+        ensures key { self.new.key ≡ self.old.key }
     {
         if place >= self.calls.len() {
             return drop(leg);

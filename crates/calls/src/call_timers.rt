@@ -113,6 +113,7 @@ impl Calls {
         ensures standing { standing self.new ≡ without_timer timer (standing self.old) }
         ensures room { self.old.room ≤ self.new.room }
         ensures timer_room { self.old.timer_room ≤ self.new.timer_room }
+        ensures key { self.new.key ≡ self.old.key }
     {
         stop(&mut self.timers, timer);
     }
@@ -121,6 +122,7 @@ impl Calls {
     pub fn set_timer(&mut self, timer: CallTimerId, at: u64)
         requires { 0 < self.old.timer_room }
         ensures standing { standing self.new ≡ with_timer timer at (standing self.old) }
+        ensures key { self.new.key ≡ self.old.key }
     {
         set(&mut self.timers, timer, at);
     }

@@ -166,6 +166,7 @@ impl Calls {
     ) -> Vec<Change>
         requires planned { IsPlannedAt self.old.calls self.old.pool place now plan }
         requires room { length plan.actions ≤ self.old.timer_room }
+        ensures key { self.new.key ≡ self.old.key }
         ensures standing { standing self.new
             ≡ (carries (standing self.old) now place kept plan (slice_get self.old.calls place)).standing }
         ensures changes { result.items
@@ -211,6 +212,7 @@ impl Calls {
         requires few { self.old.begun + 1 < 2 ^ 64 }
         requires serves { IsServed call.call self.old.pool }
         requires planned { IsPlanned call.call self.old.pool now plan }
+        ensures key { self.new.key ≡ self.old.key }
         ensures standing { standing self.new
             ≡ (after_first_step (standing self.old) now call (carried call.call self.old.pool now plan)).standing }
         ensures changes { result.items ≡ (carried call.call self.old.pool now plan).changes }

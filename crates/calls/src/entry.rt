@@ -15,6 +15,7 @@ impl Calls {
     /// Makes room for the timers that a plan sets, and for one more.
     fn reserve_timers(&mut self, plan: &Plan) -> Result<(), AllocError>
         ensures standing { standing self.new ≡ standing self.old }
+        ensures key { self.new.key ≡ self.old.key }
         ensures ok { OnOk result (length plan.now.actions < self.new.timer_room) }
         ensures room { self.old.room ≤ self.new.room }
         ensures timer_room { self.old.timer_room ≤ self.new.timer_room }
@@ -26,6 +27,7 @@ impl Calls {
     /// were.
     pub fn reserve_for(&mut self, change: &CallChange) -> Result<(), AllocError>
         ensures standing { standing self.new ≡ standing self.old }
+        ensures key { self.new.key ≡ self.old.key }
         ensures ok { OnOk result (HasRoom self.new change.now) }
         ensures room { self.old.room ≤ self.new.room }
         ensures timer_room { self.old.timer_room ≤ self.new.timer_room }
@@ -49,6 +51,7 @@ impl Calls {
         requires fits { FitsChange (standing self.old) now change }
         requires few { self.old.begun + 1 < 2 ^ 64 }
         ensures standing { standing self.new ≡ (entered (standing self.old) now change).standing }
+        ensures key { self.new.key ≡ self.old.key }
         ensures changes { result.items ≡ (entered (standing self.old) now change).changes }
         ensures leads { LeadFrom self.old.pool.rows self.new.pool.rows result.items }
         ensures timer_left { self.old.timer_room ≤ self.new.timer_room + timers_set change }

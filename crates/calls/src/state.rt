@@ -53,7 +53,7 @@ impl Model for Calls {
 
     ghost coded = { Prim.hlevel (codes, coded_contents) };
 
-    ghost view = { λ c. record { calls = c.calls.items; pool = c.pool; begun = c.begun; timers = c.timers.timers; room = min (vec_capacity c.calls - vec_len c.calls) (vec_capacity c.tags - vec_len c.tags); timer_room = c.timers.room } };
+    ghost view = { λ c. record { calls = c.calls.items; pool = c.pool; begun = c.begun; timers = c.timers.timers; room = min (vec_capacity c.calls - vec_len c.calls) (vec_capacity c.tags - vec_len c.tags); timer_room = c.timers.room; key = c.key } };
 
     ghost invariant = { λ c. AreKept c.calls.items c.pool c.begun × (c.tags.items ≡ map (prints_of c.key) c.calls.items) };
 }
@@ -66,7 +66,7 @@ fn call_at(calls: &[StandingCall], place: usize) -> Option<&StandingCall>
 
 impl Calls {
     /// No call, over a pool of this many pairs, the first of which begins at this even port. Calls are looked up by
-    /// prints under this key. No result depends on the key.
+    /// prints under this key, and no other, for good. No other result depends on the key.
     pub fn new(alloc: Global, key: PrintKey, first: u16, pairs: u16) -> Result<Calls, AllocError>
         requires even { first % 2 ≡ 0 }
         requires least { min_port ≤ first }
@@ -77,6 +77,7 @@ impl Calls {
         ensures pool { IfOk result (λ c. c.pool ≡ new_pool first pairs) }
         ensures begun { IfOk result (λ c. c.begun ≡ 0) }
         ensures timers { IfOk result (λ c. c.timers ≡ []) }
+        ensures key { IfOk result (λ c. c.key ≡ key) }
     {
         let pool = Pool::new(alloc, first, pairs)?;
         Ok(Calls {

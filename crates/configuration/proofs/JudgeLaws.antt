@@ -1,5 +1,5 @@
 -- A table has a flaw exactly if it is refused, and by the flaw's rule.
-use Rattle.std.proofs.Common.{◌≡◌, ℕ, ℤ, Bool, true, false, not, ◌&&◌, cond, List, [], ◌∷◌, Option, Some, None, option_map, unwrap_or, inl, inr, refl, sym, ap, ap₂, ◌∙◌}
+use Rattle.std.proofs.Common.{◌≡◌, ℕ, ℤ, pos, Bool, true, false, not, ◌&&◌, cond, List, [], ◌∷◌, Option, Some, None, option_map, unwrap_or, inl, inr, refl, sym, ap, ap₂, ◌∙◌}
 use Rattle.std.specs.Prelude.{◌⊎◌, is_some, nat_eq, nat_le, ◌==◌, ◌%◌, length}
 use Rattle.std.specs.Option.{option_or}
 use Rattle.std.specs.List.{list_all, list_any}
@@ -17,12 +17,12 @@ use Rattle.configuration.specs.declared.key.Key.TheVariants as keys
 use Rattle.configuration.specs.declared.key.Kind.{Kind}
 use Rattle.configuration.specs.declared.key.Kind.TheVariants.{Whole, Between, Truth, Text, Digits, Level, Page, Texts}
 use Rattle.configuration.specs.declared.flaw.Flaw.{Flaw}
-use Rattle.configuration.specs.declared.flaw.Flaw.TheVariants.{UnknownKey, Missing, OtherType, OutOfRange, Odd, PastLastPort, RelayPort, Malformed, RandomKey, UserCount, UserTwice}
+use Rattle.configuration.specs.declared.flaw.Flaw.TheVariants.{NoToml, UnknownKey, Missing, OtherType, OutOfRange, Odd, PastLastPort, RelayPort, Malformed, RandomKey, UserCount, UserTwice}
 use Rattle.configuration.specs.Rules.{has_room_for_ports, is_relay_port, is_server_address, has_relay_ports, has_address, is_user_list, has_users, has_lifetime, has_longest_lifetime, has_domain, has_silence_limit, has_length_limit, has_share, first_broken}
-use Rattle.configuration.specs.Keys.{Row, row_of, all_keys, kind_rule}
-use Rattle.configuration.specs.Files.{natural, value_at, text_at, flag_at, said_number, key_of, level_named, config_in}
+use Rattle.configuration.specs.Keys.{row_of, all_keys, kind_rule}
+use Rattle.configuration.specs.Files.{natural, value_at, flag_at, key_of, level_named, config_in}
 use Rattle.configuration.specs.Status.{page_at}
-use Rattle.configuration.specs.Flaws.{rule_of, unknown_key, unknown_flaw, unless, is_within, number_flaw, digits_flaw, level_flaw, page_flaw, are_texts, texts_flaw, value_flaw, row_flaw, key_flaw, first_flaw, said_flaw, relay_flaw, address_flaw, malformed_user, user_twice, users_flaw, lifetime_flaw, domain_flaw, duration_flaw, share_flaw, rules_flaw, flaw_in, config_without, config_of}
+use Rattle.configuration.specs.Flaws.{rule_of, unknown_key, unknown_flaw, unless, is_within, number_flaw, digits_flaw, level_flaw, page_flaw, are_texts, texts_flaw, value_flaw, row_flaw, key_flaw, first_flaw, said_flaw, relay_flaw, address_flaw, malformed_user, user_twice, users_flaw, lifetime_flaw, domain_flaw, duration_flaw, share_flaw, rules_flaw, in_file, broken_in, flaw_in, config_without, config_of}
 
 -- ---- a flaw of a key is one of the file
 
@@ -97,12 +97,12 @@ map_or (Some f) g = refl
 abbrev broken_unless : Bool → ConfigError → Option ConfigError
 broken_unless b e = cond b None (Some e)
 
-relay : (ms : Members) (c : Config) → option_map rule_of (relay_flaw ms c) ≡ broken_unless (has_relay_ports c) rules.RelayPorts
+relay : (c : Config) → option_map rule_of (relay_flaw c) ≡ broken_unless (has_relay_ports c) rules.RelayPorts
 unfolding relay_flaw has_relay_ports
-relay ms c = parts (c.relay_first % 2 == 0) (nat_le min_relay_port c.relay_first) (nat_le 1 c.relay_pairs) (nat_le c.relay_pairs max_relay_pairs) (has_room_for_ports c) (is_relay_port c c.sip_port) where
+relay c = parts (c.relay_first % 2 == 0) (nat_le min_relay_port c.relay_first) (nat_le 1 c.relay_pairs) (nat_le c.relay_pairs max_relay_pairs) (has_room_for_ports c) (is_relay_port c c.sip_port) where
   parts : (a b d e f g : Bool)
-      → option_map rule_of (cond a (cond b (cond (d && e) (cond f (cond g (Some (RelayPort (said_number keys.SipPort ms))) None) (Some (PastLastPort (said_number keys.RelayPairs ms))))
-      (Some (OutOfRange keys.RelayPairs (said_number keys.RelayPairs ms)))) (Some (OutOfRange keys.RelayFirst (said_number keys.RelayFirst ms)))) (Some (Odd (said_number keys.RelayFirst ms))))
+      → option_map rule_of (cond a (cond b (cond (d && e) (cond f (cond g (Some (RelayPort (pos c.sip_port))) None) (Some (PastLastPort (pos c.relay_pairs))))
+      (Some (OutOfRange keys.RelayPairs (pos c.relay_pairs)))) (Some (OutOfRange keys.RelayFirst (pos c.relay_first)))) (Some (Odd (pos c.relay_first))))
       ≡ broken_unless (a && b && d && e && f && not g) rules.RelayPorts
   parts true true true true true true = refl
   parts true true true true true false = refl
@@ -112,11 +112,11 @@ relay ms c = parts (c.relay_first % 2 == 0) (nat_le min_relay_port c.relay_first
   parts true false d e f g = refl
   parts false b d e f g = refl
 
-address : (ms : Members) (c : Config) → option_map rule_of (address_flaw ms c) ≡ broken_unless (has_address c) rules.Address
+address : (c : Config) → option_map rule_of (address_flaw c) ≡ broken_unless (has_address c) rules.Address
 unfolding address_flaw has_address
-address ms c = parts (is_server_address c.ip) (c.sip_port == 0) where
+address c = parts (is_server_address c.ip) (c.sip_port == 0) where
   parts : (a b : Bool)
-      → option_map rule_of (cond a (cond b (Some (OutOfRange keys.SipPort (said_number keys.SipPort ms))) None) (Some (Malformed keys.Ip (unwrap_or (text_at keys.Ip ms) []))))
+      → option_map rule_of (cond a (cond b (Some (OutOfRange keys.SipPort (pos c.sip_port))) None) (Some (Malformed keys.Ip [])))
       ≡ broken_unless (a && not b) rules.Address
   parts true true = refl
   parts true false = refl
@@ -152,11 +152,11 @@ users c = parts (nat_le 1 (length c.users)) (nat_le (length c.users) max_users) 
   parts true false = refl
   parts false b = refl
 
-lifetime : (ms : Members) (c : Config) → option_map rule_of (lifetime_flaw ms c) ≡ broken_unless (has_lifetime c && has_longest_lifetime c) rules.MinExpires
+lifetime : (c : Config) → option_map rule_of (lifetime_flaw c) ≡ broken_unless (has_lifetime c && has_longest_lifetime c) rules.MinExpires
 unfolding lifetime_flaw
-lifetime ms c = parts (has_lifetime c) (has_longest_lifetime c) where
+lifetime c = parts (has_lifetime c) (has_longest_lifetime c) where
   parts : (a b : Bool)
-      → option_map rule_of (cond a (cond b None (Some (OutOfRange keys.MaxExpires (said_number keys.MaxExpires ms)))) (Some (OutOfRange keys.MinExpires (said_number keys.MinExpires ms))))
+      → option_map rule_of (cond a (cond b None (Some (OutOfRange keys.MaxExpires (pos (unwrap_or c.max_expires 0))))) (Some (OutOfRange keys.MinExpires (pos c.min_expires))))
       ≡ broken_unless (a && b) rules.MinExpires
   parts true true = refl
   parts true false = refl
@@ -169,32 +169,32 @@ domain c = parts (has_domain c) where
   parts true = refl
   parts false = refl
 
-duration_rule : (ms : Members) (c : Config) → option_map rule_of (duration_flaw ms c) ≡ broken_unless (has_silence_limit c && has_length_limit c) rules.CallDuration
+duration_rule : (c : Config) → option_map rule_of (duration_flaw c) ≡ broken_unless (has_silence_limit c && has_length_limit c) rules.CallDuration
 unfolding duration_flaw
-duration_rule ms c = parts (has_silence_limit c) (has_length_limit c) where
+duration_rule c = parts (has_silence_limit c) (has_length_limit c) where
   parts : (a b : Bool)
-      → option_map rule_of (cond a (cond b None (Some (OutOfRange keys.LongestCallHours (said_number keys.LongestCallHours ms)))) (Some (OutOfRange keys.SilentMinutes (said_number keys.SilentMinutes ms))))
+      → option_map rule_of (cond a (cond b None (Some (OutOfRange keys.LongestCallHours (pos (unwrap_or c.longest_call_hours 0))))) (Some (OutOfRange keys.SilentMinutes (pos (unwrap_or c.silent_minutes 0)))))
       ≡ broken_unless (a && b) rules.CallDuration
   parts true true = refl
   parts true false = refl
   parts false b = refl
 
-share_rule : (ms : Members) (c : Config) → option_map rule_of (share_flaw ms c) ≡ broken_unless (has_share c) rules.SourceShare
+share_rule : (c : Config) → option_map rule_of (share_flaw c) ≡ broken_unless (has_share c) rules.SourceShare
 unfolding share_flaw
-share_rule ms c = parts (has_share c) where
-  parts : (a : Bool) → option_map rule_of (cond a None (Some (OutOfRange keys.SourceShare (said_number keys.SourceShare ms)))) ≡ broken_unless a rules.SourceShare
+share_rule c = parts (has_share c) where
+  parts : (a : Bool) → option_map rule_of (cond a None (Some (OutOfRange keys.SourceShare (pos (unwrap_or c.source_share 0))))) ≡ broken_unless a rules.SourceShare
   parts true = refl
   parts false = refl
 
-pub rules_agree : (ms : Members) (c : Config) → option_map rule_of (rules_flaw ms c) ≡ first_broken c
+pub rules_agree : (c : Config) → option_map rule_of (rules_flaw c) ≡ first_broken c
 unfolding rules_flaw first_broken
-rules_agree ms c =
-    map_or (relay_flaw ms c) _ ∙ ap₂ option_or (relay ms c)
-    (map_or (address_flaw ms c) _ ∙ ap₂ option_or (address ms c)
+rules_agree c =
+    map_or (relay_flaw c) _ ∙ ap₂ option_or (relay c)
+    (map_or (address_flaw c) _ ∙ ap₂ option_or (address c)
     (map_or (users_flaw c) _ ∙ ap₂ option_or (users c)
-    (map_or (lifetime_flaw ms c) _ ∙ ap₂ option_or (lifetime ms c)
+    (map_or (lifetime_flaw c) _ ∙ ap₂ option_or (lifetime c)
     (map_or (domain_flaw c) _ ∙ ap₂ option_or (domain c)
-    (map_or (duration_flaw ms c) (share_flaw ms c) ∙ ap₂ option_or (duration_rule ms c) (share_rule ms c))))))
+    (map_or (duration_flaw c) (share_flaw c) ∙ ap₂ option_or (duration_rule c) (share_rule c))))))
     ∙ first (has_relay_ports c) (has_address c) (has_users c) (has_lifetime c && has_longest_lifetime c) (has_domain c) (has_silence_limit c && has_length_limit c) (has_share c) where
       first : (a b d e f g h : Bool)
           → option_or (broken_unless a rules.RelayPorts) (option_or (broken_unless b rules.Address) (option_or (broken_unless d rules.Users) (option_or (broken_unless e rules.MinExpires)
@@ -209,32 +209,55 @@ rules_agree ms c =
       first true false d e f g h = refl
       first false b d e f g h = refl
 
+pub keeps : (c : Config) → rules_flaw c ≡ None → first_broken c ≡ None
+keeps c h = sym (rules_agree c) ∙ ap (option_map rule_of) h
+
+pub breaks : (c : Config) (flaw : Flaw) → rules_flaw c ≡ Some flaw → first_broken c ≡ Some (rule_of flaw)
+breaks c flaw h = sym (rules_agree c) ∙ ap (option_map rule_of) h
+
+-- the rule doesn't depend on what the file has
+same_rule : (ms : Members) (flaw : Flaw) → rule_of (in_file ms flaw) ≡ rule_of flaw
+same_rule ms (NoToml words) = refl
+same_rule ms (UnknownKey key) = refl
+same_rule ms (Missing key) = refl
+same_rule ms (OtherType key) = refl
+same_rule ms (OutOfRange key z) = refl
+same_rule ms (Odd z) = refl
+same_rule ms (PastLastPort z) = refl
+same_rule ms (RelayPort z) = refl
+same_rule ms (Malformed key text) = refl
+same_rule ms (RandomKey count) = refl
+same_rule ms (UserCount count) = refl
+same_rule ms (UserTwice user) = refl
+
 -- ---- both
 
 pub first_told : (ms : Members) (flaw : Flaw) → said_flaw ms ≡ Some flaw → flaw_in ms ≡ Some flaw
-first_told ms flaw h = ap (λ (f : Option Flaw). option_or f (rules_flaw ms (config_in ms))) h
+first_told ms flaw h = ap (λ (f : Option Flaw). option_or f (broken_in ms (config_in ms))) h
 
-pub then_told : (ms : Members) (c : Config) (f : Option Flaw) → said_flaw ms ≡ None → c ≡ config_in ms → f ≡ rules_flaw ms c → flaw_in ms ≡ f
+pub then_told : (ms : Members) (c : Config) (f : Option Flaw) → said_flaw ms ≡ None → c ≡ config_in ms → f ≡ broken_in ms c → flaw_in ms ≡ f
 then_told ms c f none is broken =
-    ap (λ (g : Option Flaw). option_or g (rules_flaw ms (config_in ms))) none ∙ sym (broken ∙ ap (λ (d : Config). rules_flaw ms d) is)
+    ap (λ (g : Option Flaw). option_or g (broken_in ms (config_in ms))) none ∙ sym (broken ∙ ap (λ (d : Config). broken_in ms d) is)
 
 some_is : {X : Type 0} (x y : X) → Some x ≡ Some y → x ≡ y
 some_is x y h = cc
 
 -- a table without a flaw says a configuration that keeps the rules
 pub flawless : (ms : Members) → flaw_in ms ≡ None → (config_of ms ≡ Some (config_in ms)) × (first_broken (config_in ms) ≡ None)
-flawless ms h = step (said_flaw ms) h where
-  step : (f : Option Flaw) → option_or f (rules_flaw ms (config_in ms)) ≡ None → (config_without f (config_in ms) ≡ Some (config_in ms)) × (first_broken (config_in ms) ≡ None)
-  step None h = (refl, sym (rules_agree ms (config_in ms)) ∙ ap (option_map rule_of) h)
-  step (Some f) h = absurd (never h) where
-    never : Some f ≡ None → ⊥
-    never e = cc
+flawless ms h = step (said_flaw ms) (rules_flaw (config_in ms)) (keeps (config_in ms)) h where
+  step : (f g : Option Flaw) → (g ≡ None → first_broken (config_in ms) ≡ None) → option_or f (option_map (in_file ms) g) ≡ None
+      → (config_without f (config_in ms) ≡ Some (config_in ms)) × (first_broken (config_in ms) ≡ None)
+  step None None keeps h = (refl, keeps refl)
+  step None (Some g) keeps h = absurd cc
+  step (Some f) g keeps h = absurd cc
 
 -- a table with a flaw says no configuration, or one that breaks the flaw's rule first
 pub flawed : (ms : Members) (flaw : Flaw) → flaw_in ms ≡ Some flaw
     → ((config_of ms ≡ None) × (rule_of flaw ≡ rules.File)) ⊎ ((c : Config) × (config_of ms ≡ Some c) × (first_broken c ≡ Some (rule_of flaw)))
-flawed ms flaw h = step (said_flaw ms) (said_of_file ms) h where
-  step : (f : Option Flaw) → IsOfFile f → option_or f (rules_flaw ms (config_in ms)) ≡ Some flaw
+flawed ms flaw h = step (said_flaw ms) (said_of_file ms) (rules_flaw (config_in ms)) (breaks (config_in ms)) h where
+  step : (f : Option Flaw) → IsOfFile f → (g : Option Flaw) → ((b : Flaw) → g ≡ Some b → first_broken (config_in ms) ≡ Some (rule_of b)) → option_or f (option_map (in_file ms) g) ≡ Some flaw
       → ((config_without f (config_in ms) ≡ None) × (rule_of flaw ≡ rules.File)) ⊎ ((c : Config) × (config_without f (config_in ms) ≡ Some c) × (first_broken c ≡ Some (rule_of flaw)))
-  step None file found = inr (config_in ms, refl, sym (rules_agree ms (config_in ms)) ∙ ap (option_map rule_of) found)
-  step (Some f) file found = inl (refl, ap rule_of (sym (some_is f flaw found)) ∙ file)
+  step None file None breaks found = absurd cc
+  step None file (Some b) breaks found =
+      inr (config_in ms, refl, breaks b refl ∙ ap (λ (r : ConfigError). Some r) (sym (same_rule ms b) ∙ ap rule_of (some_is (in_file ms b) flaw found)))
+  step (Some f) file g breaks found = inl (refl, ap rule_of (sym (some_is f flaw found)) ∙ file)

@@ -7,6 +7,7 @@ mod UserListLaws
 mod ReadingLaws
 mod WrittenLaws
 mod FlawLaws
+mod KeyLaws
 mod JudgeLaws
 mod FaultLaws
 mod Numerals

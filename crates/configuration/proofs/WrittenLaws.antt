@@ -1,5 +1,5 @@
 -- A configuration that keeps the rules is what its table says, key by key.
-use Rattle.std.proofs.Common.{◌≡◌, ◌≤◌, ℕ, ℤ, pos, negsuc, Bool, true, false, cond, leb, List, [], ◌∷◌, Option, Some, None, option_map, unwrap_or, Result, Ok, Err, IfOk, IfSome, refl, sym, ap, subst, ◌∙◌, arith}
+use Rattle.std.proofs.Common.{◌≡◌, ◌≤◌, ℕ, ℤ, pos, negsuc, Bool, true, false, cond, leb, List, [], ◌∷◌, Option, Some, None, option_map, unwrap_or, Result, Ok, Err, IfOk, IfSome, refl, sym, ap, subst, arith}
 use Rattle.std.specs.Prelude.{option_and_then}
 use Rattle.toml.specs.Data.{Members}
 use Rattle.sip_uri.specs.Hosts.{ip4_of}
@@ -9,7 +9,7 @@ use Rattle.configuration.specs.declared.flaw.Flaw.{Flaw}
 use Rattle.configuration.specs.declared.key.Key.TheVariants as keys
 use Rattle.configuration.specs.Limits.{max_silent_minutes, max_longest_call_hours, max_source_share}
 use Rattle.configuration.specs.Rules.{is_server_address, KeepsRules}
-use Rattle.configuration.specs.Files.{number_at, fitting, number_of, text_at, ip_at, seconds_at, limit_at, config_in}
+use Rattle.configuration.specs.Files.{number_at, fitting, number_of, text_at, seconds_at, limit_at, config_in}
 use Rattle.configuration.specs.Flaws.{said_flaw, config_without, config_of}
 use Rattle.configuration.specs.Reading.{ReadsConfig, IsWritten, IsWrittenIn}
 use Rattle.configuration.proofs.RuleLaws.{kept}

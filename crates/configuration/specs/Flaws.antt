@@ -1,6 +1,6 @@
--- What is wrong with a configuration's file: the first flaw, in the order in which the keys are judged and the rules
--- are checked.
-use Rattle.std.specs.Prelude.{◌==◌, ◌%◌, ℕ, ℤ, Bool, true, false, not, ◌&&◌, nat_eq, nat_le, List, [], ◌∷◌, length, Option, Some, None, is_some, unwrap_or, if◌then◌else◌}
+-- What is wrong with a configuration's file: the first flaw, in the order in which its keys are judged, and then the
+-- rules.
+use Rattle.std.specs.Prelude.{◌==◌, ◌%◌, ℕ, ℤ, pos, Bool, true, false, not, ◌&&◌, nat_eq, nat_le, List, [], ◌∷◌, length, Option, Some, None, is_some, option_map, unwrap_or, if◌then◌else◌}
 use Rattle.std.specs.List.{list_any}
 use Rattle.std.specs.Option.{option_or}
 use Rattle.std.specs.Cmp.Lexicographic.{pointwise}
@@ -111,23 +111,23 @@ said_flaw ms = option_or (unknown_flaw (unknown_key ms)) (first_flaw ms all_keys
 
 -- ---- the rules
 
-unfoldable pub relay_flaw : Members → Config → Option Flaw
-relay_flaw ms c =
+unfoldable pub relay_flaw : Config → Option Flaw
+relay_flaw c =
     if c.relay_first % 2 == 0
     then (if nat_le min_relay_port c.relay_first
     then (if nat_le 1 c.relay_pairs && nat_le c.relay_pairs max_relay_pairs
     then (if has_room_for_ports c
-    then (if is_relay_port c c.sip_port then Some (RelayPort (said_number keys.SipPort ms)) else None)
-    else Some (PastLastPort (said_number keys.RelayPairs ms)))
-    else Some (OutOfRange keys.RelayPairs (said_number keys.RelayPairs ms)))
-    else Some (OutOfRange keys.RelayFirst (said_number keys.RelayFirst ms)))
-    else Some (Odd (said_number keys.RelayFirst ms))
+    then (if is_relay_port c c.sip_port then Some (RelayPort (pos c.sip_port)) else None)
+    else Some (PastLastPort (pos c.relay_pairs)))
+    else Some (OutOfRange keys.RelayPairs (pos c.relay_pairs)))
+    else Some (OutOfRange keys.RelayFirst (pos c.relay_first)))
+    else Some (Odd (pos c.relay_first))
 
-unfoldable pub address_flaw : Members → Config → Option Flaw
-address_flaw ms c =
+unfoldable pub address_flaw : Config → Option Flaw
+address_flaw c =
     if is_server_address c.ip
-    then (if c.sip_port == 0 then Some (OutOfRange keys.SipPort (said_number keys.SipPort ms)) else None)
-    else Some (Malformed keys.Ip (unwrap_or (text_at keys.Ip ms) []))
+    then (if c.sip_port == 0 then Some (OutOfRange keys.SipPort (pos c.sip_port)) else None)
+    else Some (Malformed keys.Ip [])
 
 -- the first user that is malformed
 abbrev pub malformed_user : List (List ℕ) → Option Flaw
@@ -145,41 +145,60 @@ users_flaw c =
     then option_or (malformed_user c.users) (user_twice c.users)
     else Some (UserCount (length c.users))
 
-unfoldable pub lifetime_flaw : Members → Config → Option Flaw
-lifetime_flaw ms c =
+unfoldable pub lifetime_flaw : Config → Option Flaw
+lifetime_flaw c =
     if has_lifetime c
-    then (if has_longest_lifetime c then None else Some (OutOfRange keys.MaxExpires (said_number keys.MaxExpires ms)))
-    else Some (OutOfRange keys.MinExpires (said_number keys.MinExpires ms))
+    then (if has_longest_lifetime c then None else Some (OutOfRange keys.MaxExpires (pos (unwrap_or c.max_expires 0))))
+    else Some (OutOfRange keys.MinExpires (pos c.min_expires))
 
 unfoldable pub domain_flaw : Config → Option Flaw
 domain_flaw c = if has_domain c then None else Some (Malformed keys.Domain (unwrap_or c.domain []))
 
-unfoldable pub duration_flaw : Members → Config → Option Flaw
-duration_flaw ms c =
+unfoldable pub duration_flaw : Config → Option Flaw
+duration_flaw c =
     if has_silence_limit c
-    then (if has_length_limit c then None else Some (OutOfRange keys.LongestCallHours (said_number keys.LongestCallHours ms)))
-    else Some (OutOfRange keys.SilentMinutes (said_number keys.SilentMinutes ms))
+    then (if has_length_limit c then None else Some (OutOfRange keys.LongestCallHours (pos (unwrap_or c.longest_call_hours 0))))
+    else Some (OutOfRange keys.SilentMinutes (pos (unwrap_or c.silent_minutes 0)))
 
-unfoldable pub share_flaw : Members → Config → Option Flaw
-share_flaw ms c = if has_share c then None else Some (OutOfRange keys.SourceShare (said_number keys.SourceShare ms))
+unfoldable pub share_flaw : Config → Option Flaw
+share_flaw c = if has_share c then None else Some (OutOfRange keys.SourceShare (pos (unwrap_or c.source_share 0)))
 
--- the first flaw for which the configuration in a table breaks a rule
-unfoldable pub rules_flaw : Members → Config → Option Flaw
-rules_flaw ms c =
-    option_or (relay_flaw ms c) (option_or (address_flaw ms c) (option_or (users_flaw c) (option_or (lifetime_flaw ms c)
-    (option_or (domain_flaw c) (option_or (duration_flaw ms c) (share_flaw ms c))))))
+-- the first flaw for which a configuration breaks a rule
+unfoldable pub rules_flaw : Config → Option Flaw
+rules_flaw c =
+    option_or (relay_flaw c) (option_or (address_flaw c) (option_or (users_flaw c) (option_or (lifetime_flaw c)
+    (option_or (domain_flaw c) (option_or (duration_flaw c) (share_flaw c))))))
 
 -- ---- both
 
+-- the flaw with the number or the text that the file has: one that doesn't fit its field reads as 0
+abbrev pub in_file : Members → Flaw → Flaw
+in_file ms (NoToml words) = NoToml words
+in_file ms (UnknownKey key) = UnknownKey key
+in_file ms (Missing key) = Missing key
+in_file ms (OtherType key) = OtherType key
+in_file ms (OutOfRange key z) = OutOfRange key (said_number key ms)
+in_file ms (Odd z) = Odd z
+in_file ms (PastLastPort z) = PastLastPort z
+in_file ms (RelayPort z) = RelayPort z
+in_file ms (Malformed key text) = Malformed key (unwrap_or (text_at key ms) text)
+in_file ms (RandomKey count) = RandomKey count
+in_file ms (UserCount count) = UserCount count
+in_file ms (UserTwice user) = UserTwice user
+
+-- the first flaw for which the configuration in a table breaks a rule
+abbrev pub broken_in : Members → Config → Option Flaw
+broken_in ms c = option_map (in_file ms) (rules_flaw c)
+
 -- the first flaw of a table
 abbrev pub flaw_in : Members → Option Flaw
-flaw_in ms = option_or (said_flaw ms) (rules_flaw ms (config_in ms))
+flaw_in ms = option_or (said_flaw ms) (broken_in ms (config_in ms))
 
 abbrev pub config_without : Option Flaw → Config → Option Config
 config_without None c = Some c
 config_without (Some flaw) c = None
 
--- the configuration in a table, whether or not it keeps the rules: none if a key is unknown, missing or has a wrong
+-- the configuration in a table, whether or not it keeps the rules: none if a key is unknown or missing, or has a wrong
 -- value
 abbrev pub config_of : Members → Option Config
 config_of ms = config_without (said_flaw ms) (config_in ms)

@@ -6,7 +6,7 @@ use Rattle.configuration.specs.Limits.{max_answer_within, max_workers}
 use Rattle.configuration.specs.declared.error.ConfigError.{ConfigError}
 use Rattle.configuration.specs.declared.error.ConfigError.TheVariants as rules
 use Rattle.configuration.specs.declared.key.Key.{Key}
-use Rattle.configuration.specs.declared.key.Key.TheVariants.{RelayFirst, RelayPairs, SipPort, MinExpires, MaxExpires, SilentMinutes, LongestCallHours, SourceShare, Workers, AnswerWithin, OldestLeaves, Ip, RandomKey, Domain, Users, Log, StatusOpen, Status}
+use Rattle.configuration.specs.declared.key.Key.TheVariants as keys
 use Rattle.configuration.specs.declared.key.Measure.TheVariants.{Things, Seconds}
 use Rattle.configuration.specs.declared.key.Kind.{Kind}
 use Rattle.configuration.specs.declared.key.Kind.TheVariants.{Whole, Between, Truth, Text, Digits, Level, Page, Texts}
@@ -27,30 +27,31 @@ abbrev pub optional : List ℕ → Kind → Row
 optional name kind = record { name = name; is_required = false; kind = kind }
 
 abbrev pub row_of : Key → Row
-row_of RelayFirst = required (codes "relay_first") (Whole rules.RelayPorts)
-row_of RelayPairs = required (codes "relay_pairs") (Whole rules.RelayPorts)
-row_of SipPort = required (codes "sip_port") (Whole rules.Address)
-row_of MinExpires = required (codes "min_expires") (Whole rules.MinExpires)
-row_of MaxExpires = optional (codes "max_expires") (Whole rules.MinExpires)
-row_of SilentMinutes = optional (codes "silent_minutes") (Whole rules.CallDuration)
-row_of LongestCallHours = optional (codes "longest_call_hours") (Whole rules.CallDuration)
-row_of SourceShare = optional (codes "source_share") (Whole rules.SourceShare)
-row_of Workers = optional (codes "workers") (Between Things 1 max_workers)
-row_of AnswerWithin = optional (codes "answer_within") (Between Seconds 1 max_answer_within)
-row_of OldestLeaves = optional (codes "oldest_leaves") Truth
-row_of Ip = required (codes "ip") (Text rules.Address)
-row_of RandomKey = required (codes "random_key") Digits
-row_of Domain = optional (codes "domain") (Text rules.Domain)
-row_of Users = required (codes "users") (Texts rules.Users)
-row_of Log = optional (codes "log") Level
-row_of StatusOpen = optional (codes "status_open") Truth
-row_of Status = optional (codes "status") Page
+row_of keys.RelayFirst = required (codes "relay_first") (Whole rules.RelayPorts)
+row_of keys.RelayPairs = required (codes "relay_pairs") (Whole rules.RelayPorts)
+row_of keys.SipPort = required (codes "sip_port") (Whole rules.Address)
+row_of keys.MinExpires = required (codes "min_expires") (Whole rules.MinExpires)
+row_of keys.MaxExpires = optional (codes "max_expires") (Whole rules.MinExpires)
+row_of keys.SilentMinutes = optional (codes "silent_minutes") (Whole rules.CallDuration)
+row_of keys.LongestCallHours = optional (codes "longest_call_hours") (Whole rules.CallDuration)
+row_of keys.SourceShare = optional (codes "source_share") (Whole rules.SourceShare)
+row_of keys.Workers = optional (codes "workers") (Between Things 1 max_workers)
+row_of keys.AnswerWithin = optional (codes "answer_within") (Between Seconds 1 max_answer_within)
+row_of keys.OldestLeaves = optional (codes "oldest_leaves") Truth
+row_of keys.Ip = required (codes "ip") (Text rules.Address)
+row_of keys.RandomKey = required (codes "random_key") Digits
+row_of keys.Domain = optional (codes "domain") (Text rules.Domain)
+row_of keys.Users = required (codes "users") (Texts rules.Users)
+row_of keys.Log = optional (codes "log") Level
+row_of keys.StatusOpen = optional (codes "status_open") Truth
+row_of keys.Status = optional (codes "status") Page
 
 -- the keys, in the order in which their values are judged
 abbrev pub all_keys : List Key
 all_keys =
-    RelayFirst ∷ RelayPairs ∷ SipPort ∷ MinExpires ∷ MaxExpires ∷ SilentMinutes ∷ LongestCallHours ∷ SourceShare ∷ Workers ∷ AnswerWithin ∷ OldestLeaves ∷ Ip
-    ∷ RandomKey ∷ Domain ∷ Users ∷ Log ∷ StatusOpen ∷ Status ∷ []
+    keys.RelayFirst ∷ keys.RelayPairs ∷ keys.SipPort ∷ keys.MinExpires ∷ keys.MaxExpires ∷ keys.SilentMinutes
+    ∷ keys.LongestCallHours ∷ keys.SourceShare ∷ keys.Workers ∷ keys.AnswerWithin ∷ keys.OldestLeaves ∷ keys.Ip
+    ∷ keys.RandomKey ∷ keys.Domain ∷ keys.Users ∷ keys.Log ∷ keys.StatusOpen ∷ keys.Status ∷ []
 
 abbrev pub key_name : Key → List ℕ
 key_name key = (row_of key).name

@@ -9,6 +9,7 @@ pub mod Rules
 pub mod UserLists
 pub mod Files
 pub mod Flaws
+pub mod KeyLaws
 pub mod Judging
 pub mod Reading
 pub mod Entries

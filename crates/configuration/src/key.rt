@@ -62,7 +62,7 @@ pub(crate) struct Row {
 }
 
 /// The keys, in the order in which their values are judged.
-pub(crate) const KEYS: [Key; 18] = [
+pub(crate) const KEYS: &[Key] = &[
     Key::RelayFirst,
     Key::RelayPairs,
     Key::SipPort,

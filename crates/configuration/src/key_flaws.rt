@@ -159,5 +159,5 @@ fn first_flaw<'t>(table: &'t Table, keys: &[Key]) -> Option<Flaw<'t>>
 pub(crate) fn said_flaw(table: &Table) -> Option<Flaw<'_>>
     ensures { result ≡ said_flaw (table_view table.now) }
 {
-    unknown_flaw(table).or(first_flaw(table, &KEYS))
+    unknown_flaw(table).or(first_flaw(table, KEYS))
 }

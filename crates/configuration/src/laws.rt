@@ -1,7 +1,15 @@
-//! What follows from the definitions of ranges and of lists of users.
+//! What follows from the definitions of keys, of ranges and of lists of users.
 
+ghost use Rattle.configuration.specs.KeyLaws.{KeysKeepRows, SmallNumbersAreExact};
 ghost use Rattle.configuration.specs.RangeLaws.{RangeHolds};
 ghost use Rattle.configuration.specs.UserLists.{KeptUsersAreAList, UserListHolds};
+
+/// In a table whose keys have no flaw, each key has a value of its kind, or is optional and missing. A small number is
+/// read as the file has it, or as the usual one where it is missing.
+pub fn laws_of_keys()
+    ensures rows { KeysKeepRows }
+    ensures exact { SmallNumbersAreExact }
+{}
 
 /// A range contains a name exactly if the name has as many digits as the range's ends, and its number lies between
 /// them.

@@ -1,13 +1,13 @@
 //! The first flaw for which a configuration breaks a rule.
 
-ghost use Rattle.std.specs.Prelude.{◌≡◌, ◌<◌, ◌+◌, nat_eq, [], length, drop, slice_index_or};
+ghost use Rattle.std.specs.Prelude.{◌≡◌, ◌<◌, ◌+◌, pos, nat_eq, [], None, Some, length, drop, slice_index_or, unwrap_or, MatchResult, OnOk};
 ghost use Rattle.std.specs.List.{list_any};
 ghost use Rattle.std.specs.Cmp.Lexicographic.{pointwise};
-ghost use Rattle.toml.specs.View.{table_view};
+ghost use Rattle.configuration.specs.Rules.{first_broken, KeepsRules};
 ghost use Rattle.configuration.specs.Flaws.{relay_flaw, address_flaw, malformed_user, user_twice, users_flaw, lifetime_flaw, domain_flaw, duration_flaw, share_flaw, rules_flaw};
 
 use crate::config::Config;
-use crate::fields::said_number;
+use crate::error::ConfigError;
 use crate::flaw::Flaw;
 use crate::key::Key;
 use crate::names::{is_among, is_user};
@@ -16,43 +16,46 @@ use crate::rules::{
     has_longest_lifetime, has_room_for_ports, has_share, has_silence_limit, is_relay_port,
     is_server_address,
 };
-use crate::tables::text_at;
 use crate::user_list::MAX_USERS;
 use text::Text;
-use toml::Table;
+
+fn number_or_0(number: Option<u32>) -> i64
+    ensures { result ≡ pos (unwrap_or number 0) }
+{
+    i64::from(number.unwrap_or(0))
+}
 
 #[tactic(auto, unfolding(crate::specs::Flaws::relay_flaw))]
-fn relay_flaw<'t>(table: &'t Table, config: &Config) -> Option<Flaw<'t>>
-    ensures { result ≡ relay_flaw (table_view table.now) config.now }
+fn relay_flaw<'c>(config: &Config) -> Option<Flaw<'c>>
+    ensures { result ≡ relay_flaw config.now }
 {
     if config.relay_first % 2 != 0 {
-        return Some(Flaw::Odd(said_number(table, Key::RelayFirst)));
+        return Some(Flaw::Odd(i64::from(config.relay_first)));
     }
     if config.relay_first < MIN_RELAY_PORT {
-        return Some(Flaw::OutOfRange(Key::RelayFirst, said_number(table, Key::RelayFirst)));
+        return Some(Flaw::OutOfRange(Key::RelayFirst, i64::from(config.relay_first)));
     }
     if config.relay_pairs < 1 || config.relay_pairs > MAX_RELAY_PAIRS {
-        return Some(Flaw::OutOfRange(Key::RelayPairs, said_number(table, Key::RelayPairs)));
+        return Some(Flaw::OutOfRange(Key::RelayPairs, i64::from(config.relay_pairs)));
     }
     if !has_room_for_ports(config) {
-        return Some(Flaw::PastLastPort(said_number(table, Key::RelayPairs)));
+        return Some(Flaw::PastLastPort(i64::from(config.relay_pairs)));
     }
     if is_relay_port(config, config.sip_port) {
-        return Some(Flaw::RelayPort(said_number(table, Key::SipPort)));
+        return Some(Flaw::RelayPort(i64::from(config.sip_port)));
     }
     None
 }
 
 #[tactic(auto, unfolding(crate::specs::Flaws::address_flaw))]
-fn address_flaw<'t>(table: &'t Table, config: &Config) -> Option<Flaw<'t>>
-    ensures { result ≡ address_flaw (table_view table.now) config.now }
+fn address_flaw<'c>(config: &Config) -> Option<Flaw<'c>>
+    ensures { result ≡ address_flaw config.now }
 {
     if !is_server_address(&config.ip) {
-        let text = text_at(table, Key::Ip).unwrap_or("");
-        return Some(Flaw::Malformed(Key::Ip, Text::lent(text.as_bytes())));
+        return Some(Flaw::Malformed(Key::Ip, Text::lent(b"")));
     }
     if config.sip_port == 0 {
-        return Some(Flaw::OutOfRange(Key::SipPort, said_number(table, Key::SipPort)));
+        return Some(Flaw::OutOfRange(Key::SipPort, i64::from(config.sip_port)));
     }
     None
 }
@@ -100,14 +103,14 @@ fn users_flaw(config: &Config) -> Option<Flaw<'_>>
 }
 
 #[tactic(auto, unfolding(crate::specs::Flaws::lifetime_flaw))]
-fn lifetime_flaw<'t>(table: &'t Table, config: &Config) -> Option<Flaw<'t>>
-    ensures { result ≡ lifetime_flaw (table_view table.now) config.now }
+fn lifetime_flaw<'c>(config: &Config) -> Option<Flaw<'c>>
+    ensures { result ≡ lifetime_flaw config.now }
 {
     if !has_lifetime(config) {
-        return Some(Flaw::OutOfRange(Key::MinExpires, said_number(table, Key::MinExpires)));
+        return Some(Flaw::OutOfRange(Key::MinExpires, i64::from(config.min_expires)));
     }
     if !has_longest_lifetime(config) {
-        return Some(Flaw::OutOfRange(Key::MaxExpires, said_number(table, Key::MaxExpires)));
+        return Some(Flaw::OutOfRange(Key::MaxExpires, number_or_0(config.max_expires)));
     }
     None
 }
@@ -127,39 +130,55 @@ fn domain_flaw(config: &Config) -> Option<Flaw<'_>>
 }
 
 #[tactic(auto, unfolding(crate::specs::Flaws::duration_flaw))]
-fn duration_flaw<'t>(table: &'t Table, config: &Config) -> Option<Flaw<'t>>
-    ensures { result ≡ duration_flaw (table_view table.now) config.now }
+fn duration_flaw<'c>(config: &Config) -> Option<Flaw<'c>>
+    ensures { result ≡ duration_flaw config.now }
 {
     if !has_silence_limit(config) {
-        return Some(Flaw::OutOfRange(Key::SilentMinutes, said_number(table, Key::SilentMinutes)));
+        return Some(Flaw::OutOfRange(Key::SilentMinutes, number_or_0(config.silent_minutes)));
     }
     if !has_length_limit(config) {
-        let hours = said_number(table, Key::LongestCallHours);
+        let hours = number_or_0(config.longest_call_hours);
         return Some(Flaw::OutOfRange(Key::LongestCallHours, hours));
     }
     None
 }
 
 #[tactic(auto, unfolding(crate::specs::Flaws::share_flaw))]
-fn share_flaw<'t>(table: &'t Table, config: &Config) -> Option<Flaw<'t>>
-    ensures { result ≡ share_flaw (table_view table.now) config.now }
+fn share_flaw<'c>(config: &Config) -> Option<Flaw<'c>>
+    ensures { result ≡ share_flaw config.now }
 {
     if !has_share(config) {
-        return Some(Flaw::OutOfRange(Key::SourceShare, said_number(table, Key::SourceShare)));
+        return Some(Flaw::OutOfRange(Key::SourceShare, number_or_0(config.source_share)));
     }
     None
 }
 
-/// The first flaw for which the configuration in a table breaks a rule.
+/// The first flaw for which a configuration breaks a rule. Its numbers are the configuration's, and an address that
+/// breaks the rule has no text.
 #[tactic(auto, unfolding(crate::specs::Flaws::rules_flaw))]
-pub(crate) fn rules_flaw<'c>(table: &'c Table, config: &'c Config) -> Option<Flaw<'c>>
-    ensures { result ≡ rules_flaw (table_view table.now) config.now }
+pub(crate) fn rules_flaw(config: &Config) -> Option<Flaw<'_>>
+    ensures { result ≡ rules_flaw config.now }
 {
-    relay_flaw(table, config)
-        .or(address_flaw(table, config))
+    relay_flaw(config)
+        .or(address_flaw(config))
         .or(users_flaw(config))
-        .or(lifetime_flaw(table, config))
+        .or(lifetime_flaw(config))
         .or(domain_flaw(config))
-        .or(duration_flaw(table, config))
-        .or(share_flaw(table, config))
+        .or(duration_flaw(config))
+        .or(share_flaw(config))
+}
+
+/// Checks whether a configuration keeps the rules, and otherwise returns the first rule that it breaks. Takes no
+/// memory.
+#[tactic(auto, using(crate::proofs::JudgeLaws::keeps, crate::proofs::JudgeLaws::breaks))]
+pub fn check(config: &Config) -> Result<(), ConfigError>
+    // What a configuration that passes has.
+    ensures kept { OnOk result (KeepsRules config.now) }
+    // It passes if no rule is broken, and otherwise the first broken rule decides.
+    ensures exact { MatchResult result (λ _. first_broken config.now ≡ None) (λ e. first_broken config.now ≡ Some e) }
+{
+    match rules_flaw(config) {
+        Some(flaw) => Err(flaw.rule()),
+        None => Ok(()),
+    }
 }

@@ -1,13 +1,11 @@
-//! The rules of a configuration.
+//! What the rules of a configuration ask.
 
-ghost use Rattle.std.specs.Prelude.{◌≡◌, ◌==◌, None, Some, MatchResult, OnOk};
+ghost use Rattle.std.specs.Prelude.{◌≡◌, ◌==◌};
 ghost use Rattle.std.specs.List.{list_all};
-ghost use Rattle.configuration.specs.Rules.{is_relay_port, has_room_for_ports, has_relay_ports, is_server_address, has_address, has_users, has_lifetime, has_longest_lifetime, has_domain, is_upto, has_silence_limit, has_length_limit, has_share, first_broken, KeepsRules};
+ghost use Rattle.configuration.specs.Rules.{is_relay_port, has_room_for_ports, is_server_address, has_lifetime, has_longest_lifetime, has_domain, is_upto, has_silence_limit, has_length_limit, has_share};
 
 use crate::config::Config;
-use crate::error::ConfigError;
 use crate::names::is_domain;
-use crate::user_list::is_user_list;
 
 pub(crate) const MIN_RELAY_PORT: u16 = 1024;
 
@@ -43,18 +41,6 @@ pub(crate) fn has_room_for_ports(config: &Config) -> bool
     u32::from(config.relay_first) + 2 * u32::from(config.relay_pairs) <= ALL_PORTS
 }
 
-#[tactic(auto, unfolding(crate::specs::Rules::has_relay_ports))]
-fn has_relay_ports(config: &Config) -> bool
-    ensures { result ≡ has_relay_ports config.now }
-{
-    config.relay_first % 2 == 0
-        && MIN_RELAY_PORT <= config.relay_first
-        && 1 <= config.relay_pairs
-        && config.relay_pairs <= MAX_RELAY_PAIRS
-        && has_room_for_ports(config)
-        && !is_relay_port(config, config.sip_port)
-}
-
 fn is_zero(ip: &[u8]) -> bool
     ensures { result ≡ list_all (λ octet. octet == 0) ip.now }
 {
@@ -66,20 +52,6 @@ pub(crate) fn is_server_address(ip: &[u8; 4]) -> bool
     ensures { result ≡ is_server_address ip.now }
 {
     !is_zero(ip) && ip[0] < 224
-}
-
-#[tactic(auto, unfolding(crate::specs::Rules::has_address))]
-fn has_address(config: &Config) -> bool
-    ensures { result ≡ has_address config.now }
-{
-    is_server_address(&config.ip) && config.sip_port != 0
-}
-
-#[tactic(auto, unfolding(crate::specs::Rules::has_users))]
-fn has_users(config: &Config) -> bool
-    ensures { result ≡ has_users config.now }
-{
-    is_user_list(config.users.as_slice())
 }
 
 #[tactic(auto, unfolding(crate::specs::Rules::has_lifetime))]
@@ -142,47 +114,4 @@ pub(crate) fn has_share(config: &Config) -> bool
     ensures { result ≡ has_share config.now }
 {
     is_upto(MAX_SOURCE_SHARE, config.source_share)
-}
-
-#[tactic(auto, unfolding(crate::specs::Rules::first_broken))]
-fn first_broken(config: &Config) -> Option<ConfigError>
-    ensures { result ≡ first_broken config.now }
-{
-    if !has_relay_ports(config) {
-        return Some(ConfigError::RelayPorts);
-    }
-    if !has_address(config) {
-        return Some(ConfigError::Address);
-    }
-    if !has_users(config) {
-        return Some(ConfigError::Users);
-    }
-    if !(has_lifetime(config) && has_longest_lifetime(config)) {
-        return Some(ConfigError::MinExpires);
-    }
-    if !has_domain(config) {
-        return Some(ConfigError::Domain);
-    }
-    if !(has_silence_limit(config) && has_length_limit(config)) {
-        return Some(ConfigError::CallDuration);
-    }
-    if !has_share(config) {
-        return Some(ConfigError::SourceShare);
-    }
-    None
-}
-
-/// Checks whether a configuration keeps the rules, and otherwise returns the first rule that it breaks. Takes no
-/// memory.
-#[tactic(auto, using(crate::proofs::RuleLaws::kept))]
-pub fn check(config: &Config) -> Result<(), ConfigError>
-    // What a configuration that passes has.
-    ensures kept { OnOk result (KeepsRules config.now) }
-    // It passes if no rule is broken, and otherwise the first broken rule decides.
-    ensures exact { MatchResult result (λ _. first_broken config.now ≡ None) (λ e. first_broken config.now ≡ Some e) }
-{
-    match first_broken(config) {
-        Some(error) => Err(error),
-        None => Ok(()),
-    }
 }

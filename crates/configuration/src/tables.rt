@@ -28,7 +28,7 @@ fn is_among(keys: &[Key], name: &[u8]) -> bool
 pub(crate) fn is_known_key(name: &[u8]) -> bool
     ensures { result ≡ is_known_key name.now }
 {
-    is_among(&KEYS, name)
+    is_among(KEYS, name)
 }
 
 /// The value of a key.

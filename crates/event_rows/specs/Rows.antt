@@ -44,7 +44,7 @@ use Rattle.plans.specs.declared.taken.Taken.{Taken}
 use Rattle.plans.specs.declared.taken.Taken.TheVariants.{Dropped, Shed, Idle}
 use Rattle.plans.specs.declared.taken.Why.TheVariants.{Unread, Stray, Ack, NoBranch, Clock, Spent}
 use Rattle.configuration.specs.Rules.{is_user_list}
-use Rattle.registrar.specs.Changes.{kept_entries}
+use Rattle.registrar.specs.Changes.{listing_of}
 use Rattle.plans.specs.Plan.{Plan, lists, nothing, moves, replies, answers}
 use Rattle.responses.specs.Registering.{register_of}
 use Rattle.responses.specs.Responding.{allow, contact_header, refusal_headers, status_of, responds, stateless}
@@ -212,7 +212,7 @@ what_row s now salt whats.Due = due_row s (setting now salt no_source) (first_du
 -- media have stopped: the call's lifetime ends now
 what_row s now salt (whats.Silent number) = call_timer_row s (setting now salt no_source) (id number Lifetime)
 -- one who is a user already keeps its bindings
-what_row s now salt (whats.Users users) = of_plan s (lists (kept_entries s.registrar.entries users))
+what_row s now salt (whats.Users users) = of_plan s (lists (listing_of s.registrar users))
 
 abbrev pub row_by : Contents → Event → Option Taken → Effect
 row_by s e (Some taken) = of_plan (office s) (nothing taken)

@@ -1,5 +1,6 @@
 -- What the agent knows.
 use Rattle.std.specs.Prelude.{◌≡◌, ◌≢◌, ℕ, ◌<◌, ◌≤◌, ◌^◌, ◌+◌, ◌-◌, ◌*◌, max, List, [], Option, Some, None, option_and_then}
+use Rattle.index.specs.declared.print.PrintKey.{PrintKey}
 use Rattle.configuration.specs.declared.config.Config.{Config}
 use Rattle.configuration.specs.declared.error.ConfigError.{ConfigError}
 use Rattle.configuration.specs.declared.error.ConfigError.TheVariants.{OutOfMemory, RelayPorts, Address, Users, MinExpires, Domain, CallDuration, SourceShare, File}
@@ -34,7 +35,8 @@ use Rattle.event_rows.specs.Tally.{counted, none_counted}
 -- the registrar, the transactions, the calls with their pool, the ACKs that are sent again, and the changes that the
 -- last event made in the relay table; where the server is reached, its relay ports, the least number of seconds that
 -- a binding has to last, and the milliseconds that a call may last; the greatest moment so far in milliseconds, how
--- many tokens were made, how many events got each answer, what the last was about, and whose bindings it set
+-- many tokens were made, how many events got each answer, what the last was about, and whose bindings it set; and the
+-- key of the prints under which calls are looked up
 pub record Contents : Type 0 where
   pub registrar : registrar.Contents
   pub table : transactions.Contents
@@ -50,6 +52,7 @@ pub record Contents : Type 0 where
   pub tally : Tally
   pub note : Note
   pub registered : Option (List ℕ)
+  pub calls_key : PrintKey
 
 -- what a plan looks at
 abbrev pub office : Contents → Office
@@ -105,6 +108,7 @@ after_event s now e = record {
   tally = counted s.tally e.plan.taken;
   note = e.plan.note;
   registered = option_and_then user_of_change e.plan.registration;
+  calls_key = s.calls_key;
 }
 
 -- the agent after an event that was only counted
@@ -152,6 +156,12 @@ pub record IsNew (c : Config) (s : Contents) : Type 0 where
   pub tally : s.tally ≡ none_counted
   pub note : s.note ≡ Quiet
   pub registered : s.registered ≡ None
+
+-- transactions, users and calls are looked up by prints under this key
+pub record HasKey (key : PrintKey) (s : Contents) : Type 0 where
+  pub transactions : s.table.key ≡ key
+  pub users : s.registrar.key ≡ key
+  pub calls : s.calls_key ≡ key
 
 -- the first broken rule is reported; running out of memory is possible only where none is broken
 abbrev pub RefusesConfig : Config → ConfigError → Type 0

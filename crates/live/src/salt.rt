@@ -3,7 +3,7 @@
 ghost use Rattle.std.specs.Prelude.{◌≡◌, ◌≢◌, ◌<◌, ◌/◌, ◌^◌, ℕ, List};
 ghost use Rattle.std.specs.Duration.{as_nanos};
 ghost use Rattle.rand_chacha.specs.ChaCha.{ChaCha};
-ghost use Rattle.live.specs.Salts.{after_salt, behind_salts, next_place, salt_at};
+ghost use Rattle.live.specs.Salts.{after_salt, behind_salts, next_place, print_key_at, salt_at};
 ghost use Rattle.live.specs.Starts.{begun_at};
 
 use index::PrintKey;
@@ -36,8 +36,7 @@ pub fn next_salt(salts: &mut ChaCha20Rng) -> u64
 
 /// A print key: the next two salts of the stream, which no event gets then. Takes no memory.
 pub fn next_print_key(salts: &mut ChaCha20Rng) -> PrintKey
-    ensures first { result.first ≡ salt_at salts.old }
-    ensures second { result.second ≡ salt_at (after_salt salts.old) }
+    ensures key { result ≡ print_key_at salts.old }
     ensures place { salts.new ≡ after_salt (after_salt salts.old) }
 {
     let first = next_salt(salts);

@@ -1,10 +1,10 @@
 //! The signalling as one value: what it begins with, and its end.
 
 ghost use Rattle.std.specs.Prelude.{◌≡◌, [], IfErr, IfOk};
-ghost use Rattle.event_rows.specs.State.{IsNew};
+ghost use Rattle.event_rows.specs.State.{HasKey, IsNew};
 ghost use Rattle.media_laws.specs.Standing.{AgentStands};
 ghost use Rattle.std.specs.Duration.{as_nanos};
-ghost use Rattle.live.specs.Salts.{after_salt};
+ghost use Rattle.live.specs.Salts.{after_salt, print_key_at};
 ghost use Rattle.live.specs.Starts.{begun_at};
 ghost use Rattle.live.specs.Turns.{HasTable};
 
@@ -44,6 +44,7 @@ impl<W> Signalling<W> {
         W: Drop,
         ensures agent { IfOk result (λ signalling. IsNew config.now signalling.agent) }
         ensures stands { IfOk result (λ signalling. AgentStands signalling.agent [] 0) }
+        ensures key { IfOk result (λ signalling. HasKey (print_key_at (begun_at config.now.random_key (as_nanos start))) signalling.agent) }
         ensures board { IfOk result (λ signalling. signalling.board ≡ board) }
         ensures wire { IfOk result (λ signalling. signalling.wire ≡ wire) }
         ensures salts { IfOk result (λ signalling. signalling.salts

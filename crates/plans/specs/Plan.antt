@@ -5,10 +5,9 @@ use Rattle.sip_uri.specs.declared.uri.Addr.{Addr}
 use Rattle.sip_message.specs.declared.message.Message.TheVariants as Kinds
 use Rattle.sip_message.specs.declared.message.Response.{Response}
 use Rattle.sip_writing.specs.Writing.{message_text}
-use Rattle.registrar.specs.Registrar.{PlanContents}
+use Rattle.registrar.specs.Registrar.{ListingContents, PlanContents}
 use Rattle.registrar.specs.declared.change.RegistrarChange.{RegistrarChange}
 use Rattle.registrar.specs.declared.change.RegistrarChange.TheVariants.{Binds, Lists}
-use Rattle.registrar.specs.declared.user_bindings.UserBindings.{UserBindings}
 use Rattle.transactions.specs.declared.change.Entry.{Entry}
 use Rattle.transactions.specs.declared.outcome.Outgoing.{Outgoing}
 use Rattle.transactions.specs.Changes.{answer_of}
@@ -37,9 +36,9 @@ sent_response to response = record { to = to; bytes = message_text (Kinds.Respon
 abbrev pub nothing : Taken → Plan
 nothing taken = record { taken = taken; changes = []; sends = []; registration = None; made = 0; note = note_of_taken taken }
 
--- the users are to be these, each with what it is to be bound to
-abbrev pub lists : List UserBindings → Plan
-lists entries = record { taken = Done; changes = []; sends = []; registration = Some (Lists entries); made = 0; note = Quiet }
+-- the users are to be those of this listing, each with what it is to be bound to
+abbrev pub lists : ListingContents → Plan
+lists listing = record { taken = Done; changes = []; sends = []; registration = Some (Lists listing); made = 0; note = Quiet }
 
 -- bytes that a transaction sends, if any
 abbrev pub goes : Option Outgoing → List Sent

@@ -4,7 +4,7 @@ ghost use Rattle.std.specs.Prelude.{◌≡◌, ◌<◌, ◌^◌, ℕ, IfOk};
 ghost use Rattle.plans.specs.CallRows.{occasion, of_plan};
 ghost use Rattle.plans.specs.Effect.{Fits, effect};
 ghost use Rattle.plans.specs.Plan.{lists, moves, nothing};
-ghost use Rattle.registrar.specs.Changes.{kept_entries};
+ghost use Rattle.registrar.specs.Changes.{listing_of};
 
 use crate::acks::KeptAck;
 use crate::effects_of_events::Doing;
@@ -78,7 +78,7 @@ impl<'o> Office<'o> {
 
     /// The office's users are to be these: one who is a user already keeps its bindings.
     pub fn users_row(&self, users: &[Text<'_>]) -> Result<Doing, AllocError>
-        ensures row { (now : ℕ) → IfOk result (λ d. effect self.now.calls self.now.acks now d ≡ of_plan self.now (lists (kept_entries self.now.registrar.entries users.now))) }
+        ensures row { (now : ℕ) → IfOk result (λ d. effect self.now.calls self.now.acks now d ≡ of_plan self.now (lists (listing_of self.now.registrar users.now))) }
         ensures fits { (now : ℕ) → IfOk result (Fits self.now.calls now) }
     {
         let listing = self.registrar.listing(users)?;

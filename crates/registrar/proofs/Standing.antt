@@ -6,6 +6,7 @@ use Rattle.std.specs.declared.vec.Vec.{Vec}
 use Rattle.std.specs.declared.alloc.Global.{Global}
 use Rattle.std.proofs.lemmas.List.Elements.{All-head, All-tail}
 use Rattle.text.proofs.Lists.{is_some-position}
+use Rattle.index.specs.declared.print.PrintKey.{PrintKey}
 use Rattle.registrar.specs.declared.binding.Binding.{Binding}
 use Rattle.registrar.specs.declared.binding_rules.BindingRules.{BindingRules}
 use Rattle.registrar.specs.declared.register.Register.{Register}
@@ -20,9 +21,9 @@ use Rattle.registrar.proofs.FoldLaws.{rules_after-append, fold_from-append}
 use Rattle.registrar.proofs.EntryLaws.{known, own_entry, other_entry, same_users, users-without_bindings, none-without_bindings}
 
 -- a new registrar is as no REGISTER leaves it
-pub stands_new : (users : List (List ℕ)) (ip : List ℕ) (sip_port : ℕ) (domain : List ℕ) (binding_rules : BindingRules)
-    → StandsAfter (made_of users ip sip_port domain binding_rules) (rules_given users ip sip_port domain binding_rules) []
-stands_new users ip sip_port domain binding_rules = record {
+pub stands_new : (users : List (List ℕ)) (ip : List ℕ) (sip_port : ℕ) (domain : List ℕ) (binding_rules : BindingRules) (key : PrintKey)
+    → StandsAfter (made_of users ip sip_port domain binding_rules key) (rules_given users ip sip_port domain binding_rules) []
+stands_new users ip sip_port domain binding_rules key = record {
   rules_are = ap (λ us. rules_given us ip sip_port domain binding_rules) (users-without_bindings users);
   each = λ user. none-without_bindings users user;
 }

@@ -3,6 +3,7 @@ use Rattle.std.specs.Prelude.{◌≡◌, ℕ, Bool, List, [], ◌∷◌, find, m
 use Rattle.std.specs.Cmp.Lexicographic.{pointwise}
 use Rattle.std.specs.declared.vec.Vec.{Vec}
 use Rattle.std.specs.declared.alloc.Global.{Global}
+use Rattle.index.specs.declared.print.PrintKey.{PrintKey}
 use Rattle.registrar.specs.declared.binding.Binding.{Binding}
 use Rattle.registrar.specs.declared.binding_rules.BindingRules.{BindingRules}
 use Rattle.registrar.specs.declared.register.Register.{Register}
@@ -12,13 +13,14 @@ use Rattle.registrar.specs.declared.refusal.Refusal.TheVariants.{OutOfMemory}
 use Rattle.registrar.specs.Registering.{Rules, answer_by, early_refusal, present}
 use Rattle.registrar.specs.Bound.{Event, Registered, bindings_after, rules_after}
 
--- each user with its bindings, and the configuration
+-- each user with its bindings, the configuration, and the key of the prints under which users are looked up
 pub record Contents : Type 0 where
   pub entries : List UserBindings
   pub ip : List ℕ
   pub sip_port : ℕ
   pub domain : List ℕ
   pub binding_rules : BindingRules
+  pub key : PrintKey
 
 abbrev pub rules_of : Contents → Rules
 rules_of r = record { users = map (λ l. l.user) r.entries; ip = r.ip; sip_port = r.sip_port; domain = r.domain; binding_rules = r.binding_rules }
@@ -80,9 +82,9 @@ abbrev pub without_bindings : List ℕ → UserBindings
 without_bindings user = record { user = user; bindings = [] }
 
 -- a registrar without bindings
-abbrev pub made_of : List (List ℕ) → List ℕ → ℕ → List ℕ → BindingRules → Contents
-made_of users ip sip_port domain binding_rules =
-    record { entries = map without_bindings users; ip = ip; sip_port = sip_port; domain = domain; binding_rules = binding_rules }
+abbrev pub made_of : List (List ℕ) → List ℕ → ℕ → List ℕ → BindingRules → PrintKey → Contents
+made_of users ip sip_port domain binding_rules key =
+    record { entries = map without_bindings users; ip = ip; sip_port = sip_port; domain = domain; binding_rules = binding_rules; key = key }
 
 -- the first entry of this user has these bindings, the others as before
 abbrev pub entries_with : List ℕ → List Binding → List UserBindings → List UserBindings
@@ -93,7 +95,7 @@ entries_with user bindings (l ∷ ls) =
 -- the user has these bindings, and all others what they had
 abbrev pub with_user : Contents → List ℕ → List Binding → Contents
 with_user r user bindings =
-    record { entries = entries_with user bindings r.entries; ip = r.ip; sip_port = r.sip_port; domain = r.domain; binding_rules = r.binding_rules }
+    record { entries = entries_with user bindings r.entries; ip = r.ip; sip_port = r.sip_port; domain = r.domain; binding_rules = r.binding_rules; key = r.key }
 
 abbrev pub registered_at : Contents → List ℕ → Result (List Binding) Refusal → Contents
 registered_at r user (Ok bindings) = with_user r user bindings
@@ -106,6 +108,13 @@ registered_for r (Some user) answer = registered_at r user answer
 -- the registrar after a REGISTER that was answered so
 unfoldable pub registered : Contents → Register → Result (List Binding) Refusal → Contents
 registered r register answer = registered_for r register.user answer
+
+-- ---- a listing
+
+-- users, each with its bindings, and the key of the prints under which they are looked up
+pub record ListingContents : Type 0 where
+  pub entries : List UserBindings
+  pub key : PrintKey
 
 -- ---- a plan
 

@@ -11,10 +11,9 @@ pub struct Listing {
 }
 
 impl Model for Listing {
-    ghost use Rattle.std.specs.Prelude.{List};
-    ghost use Rattle.registrar.specs.declared.user_bindings.UserBindings.{UserBindings};
+    ghost use Rattle.registrar.specs.Registrar.{ListingContents};
 
-    ghost Value = { List UserBindings };
+    ghost Value = { ListingContents };
 
     ghost view = { λ l. l.entries };
 }

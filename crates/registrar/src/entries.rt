@@ -26,13 +26,12 @@ pub(crate) struct Entries {
 }
 
 impl Model for Entries {
-    ghost use Rattle.std.specs.Prelude.{List};
-    ghost use Rattle.registrar.specs.declared.user_bindings.UserBindings.{UserBindings};
+    ghost use Rattle.registrar.specs.Registrar.{ListingContents};
     ghost use Rattle.registrar.specs.Entries.{IsIndexed};
 
-    ghost Value = { List UserBindings };
+    ghost Value = { ListingContents };
 
-    ghost view = { λ e. e.users.items };
+    ghost view = { λ e. record { entries = e.users.items; key = e.key } };
 
     ghost invariant = { λ e. IsIndexed e.key e.users.items e.names.entries };
 }
@@ -46,7 +45,7 @@ impl Entries {
         key: PrintKey,
         users: Texts<'static>,
     ) -> Result<Entries, AllocError>
-        ensures { IfOk result (λ entries. entries ≡ map without_bindings users.entry) }
+        ensures { IfOk result (λ listing. listing ≡ record { entries = map without_bindings users.entry; key = key }) }
     {
         let users = without_bindings(alloc, users)?;
         let names = index_of(alloc, key, &users)?;
@@ -55,7 +54,7 @@ impl Entries {
 
     /// These users, who are looked up by the same prints, each with what it is bound to here.
     pub(crate) fn for_users(&self, alloc: Global, users: &[Text<'_>]) -> Result<Entries, AllocError>
-        ensures { IfOk result (λ entries. entries ≡ kept_entries self.now users.now) }
+        ensures { IfOk result (λ listing. listing ≡ record { entries = kept_entries self.now.entries users.now; key = self.now.key }) }
     {
         let users = self.kept_entries(alloc, users)?;
         let names = index_of(alloc, self.key, &users)?;
@@ -71,7 +70,7 @@ impl Entries {
         alloc: Global,
         users: &[Text<'_>],
     ) -> Result<Vec<UserBindings>, AllocError>
-        ensures { IfOk result (λ entries. entries.items ≡ kept_entries self.now users.now) }
+        ensures { IfOk result (λ entries. entries.items ≡ kept_entries self.now.entries users.now) }
     {
         let mut entries = Vec::new(alloc);
         for user in users {
@@ -81,7 +80,7 @@ impl Entries {
     }
 
     fn kept_entry(&self, alloc: Global, user: &Text<'_>) -> Result<UserBindings, AllocError>
-        ensures { IfOk result (λ entry. entry ≡ kept_entry self.now user.now) }
+        ensures { IfOk result (λ entry. entry ≡ kept_entry self.now.entries user.now) }
     {
         let bindings = copy_all(alloc, self.look_up(user).1)?;
         Ok(UserBindings {
@@ -92,15 +91,15 @@ impl Entries {
 
     /// The entries, borrowed. Takes no memory.
     pub(crate) fn as_slice(&self) -> &[UserBindings]
-        ensures { result.now ≡ self.now }
+        ensures { result.now ≡ self.now.entries }
     {
         self.users.as_slice()
     }
 
     /// Whether this is one of the users, and what the user is bound to; nothing for anyone unknown. Takes no memory.
     pub(crate) fn look_up(&self, user: &Text<'_>) -> (bool, &[Binding])
-        ensures known { result.0 ≡ list_any (λ u. pointwise nat_eq u user.now) (map (λ e. e.user) self.now) }
-        ensures bindings { result.1.now ≡ bindings_of self.now user.now }
+        ensures known { result.0 ≡ list_any (λ u. pointwise nat_eq u user.now) (map (λ e. e.user) self.now.entries) }
+        ensures bindings { result.1.now ≡ bindings_of self.now.entries user.now }
     {
         match self.place_of(user) {
             Some(place) => (true, self.users[place].bindings.as_slice()),
@@ -110,7 +109,8 @@ impl Entries {
 
     /// Puts what a user is bound to; changes nothing for anyone unknown. Takes no memory.
     pub(crate) fn put_bindings(&mut self, user: &Text<'_>, bindings: Bindings)
-        ensures { self.new ≡ entries_with user.now bindings self.old }
+        ensures entries { self.new.entries ≡ entries_with user.now bindings self.old.entries }
+        ensures key { self.new.key ≡ self.old.key }
     {
         if let Some(place) = self.place_of(user) {
             self.put_at(user, place, bindings);
@@ -118,16 +118,17 @@ impl Entries {
     }
 
     fn put_at(&mut self, user: &Text<'_>, place: usize, bindings: Bindings)
-        requires { position (is_for user.now) self.old ≡ Some place }
-        ensures { self.new ≡ entries_with user.now bindings self.old }
+        requires { position (is_for user.now) self.old.entries ≡ Some place }
+        ensures entries { self.new.entries ≡ entries_with user.now bindings self.old.entries }
+        ensures key { self.new.key ≡ self.old.key }
     {
         self.users[place].bindings = bindings;
     }
 
     // The place of a user, which is looked for among those with the print of its name alone.
     fn place_of(&self, user: &Text<'_>) -> Option<usize>
-        ensures place { result ≡ position (is_for user.now) self.now }
-        ensures bound { IfSome result (λ place. place < length self.now) }
+        ensures place { result ≡ position (is_for user.now) self.now.entries }
+        ensures bound { IfSome result (λ place. place < length self.now.entries) }
     {
         first_of(
             self.names.numbers(self.key.print_of(user.as_bytes())),

@@ -5,7 +5,7 @@ ghost use Rattle.std.specs.Option.{option_copied};
 ghost use Rattle.registrar.specs.Limits.{max_users, max_min_expires};
 ghost use Rattle.registrar.specs.Registering.{Rules, AllLast, bindings_by, bindings_after_one, is_own_host, user_of, are_distinct, is_known, whole_refusal};
 ghost use Rattle.registrar.specs.Bound.{Event, Listed, bound, target_of, answer_after};
-ghost use Rattle.registrar.specs.Changes.{after_change, kept_entries, listed, user_of_change};
+ghost use Rattle.registrar.specs.Changes.{after_change, listed, listing_of, user_of_change};
 ghost use Rattle.registrar.specs.Registrar.{Gives, Counts, Plans};
 ghost use Rattle.registrar.specs.declared.refusal.Refusal.TheVariants as Refusal;
 
@@ -56,14 +56,14 @@ impl Model for Registrar {
 
     ghost Value = { Contents };
 
-    ghost view = { λ r. record { entries = r.entries; ip = r.ip; sip_port = r.sip_port; domain = r.domain; binding_rules = r.binding_rules } };
+    ghost view = { λ r. record { entries = r.entries.entries; ip = r.ip; sip_port = r.sip_port; domain = r.domain; binding_rules = r.binding_rules; key = r.entries.key } };
 }
 
 impl Registrar {
     ghost use Rattle.registrar.specs.Registrar.{StandsAfter, Contents, rules_of, answer_of, refusal_of, after_plan, bindings_of, bindings_at, event, registered, rules_given};
 
     /// A registrar without bindings for these users of a server at this address, port and domain, which binds by
-    /// these rules. It looks users up by prints under this key, on which no result depends.
+    /// these rules. It looks users up by prints under this key, and no other, for good. No other result depends on it.
     pub fn new(
         alloc: Global,
         key: PrintKey,
@@ -79,7 +79,8 @@ impl Registrar {
         requires least { 1 ≤ binding_rules.min_expires }
         requires bounded { binding_rules.min_expires ≤ max_min_expires }
         requires most { IfSome binding_rules.max_expires (λ most. binding_rules.min_expires ≤ most) }
-        ensures { IfOk result (λ r. StandsAfter r (rules_given users.entry ip sip_port domain.entry binding_rules) []) }
+        ensures stands { IfOk result (λ r. StandsAfter r (rules_given users.entry ip sip_port domain.entry binding_rules) []) }
+        ensures key { IfOk result (λ r. r.key ≡ key) }
     {
         let entries = Entries::new(alloc, key, users)?;
         Ok(Registrar {
@@ -148,7 +149,7 @@ impl Registrar {
     /// What `make_change` is to change so that these are the users: one who is a user already keeps its bindings.
     /// Changes nothing.
     pub fn listing(&self, users: &[Text<'_>]) -> Result<Listing, AllocError>
-        ensures { IfOk result (λ listing. listing ≡ kept_entries self.now.entries users.now) }
+        ensures { IfOk result (λ listing. listing ≡ listing_of self.now users.now) }
     {
         Ok(Listing::from_entries(self.entries.for_users(self.alloc, users)?))
     }

@@ -59,7 +59,7 @@ use Rattle.message_laws.proofs.Messages.RequestViews as requests
 use Rattle.step_laws.specs.Dropping.{NoneTakes, IsAnsweredFor, IsBranched, IsRead}
 use Rattle.step_laws.specs.Registering.{BringsUsers, Registers}
 use Rattle.configuration.specs.Rules.{is_user_list}
-use Rattle.registrar.specs.Changes.{kept_entries}
+use Rattle.registrar.specs.Changes.{listing_of}
 use Rattle.step_laws.proofs.CallRows.{IsDoneBy, call_timer_done, fire_ready, first_done, moves_done, okay_done, passes_done, refuses_done, reply_done, request_done, response_done, takes_done, timeout_done}
 use Rattle.step_laws.proofs.Ready.{change_ready}
 use Rattle.step_laws.proofs.ReadySteps.{AllReady, none_ready, one_ready}
@@ -73,7 +73,7 @@ pub data EventCase (s : Contents) (event : Event) (x : Effect) : Type 0 where
   went : IsDoneBy x → EventCase s event x
   registered : (source : Addr) (r : Request) (id : ℕ) → Registers s event source r id
       → x ≡ of_plan (office s) (registers (office s) (setting (moment_at s event.now) event.salt source) r (change_of s.table (Kinds.Request r) source ∷ []) id) → EventCase s event x
-  listed : (users : List (List ℕ)) → BringsUsers s event users → x ≡ of_plan (office s) (lists (kept_entries s.registrar.entries users)) → EventCase s event x
+  listed : (users : List (List ℕ)) → BringsUsers s event users → x ≡ of_plan (office s) (lists (listing_of s.registrar users)) → EventCase s event x
 
 -- ---- an event that is only counted
 

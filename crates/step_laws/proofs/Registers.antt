@@ -21,7 +21,7 @@ use Rattle.plans.specs.Replies.{fresh_tag, registers, registers_by, reply_row}
 use Rattle.plans.specs.declared.setting.Setting.{Setting}
 use Rattle.responses.specs.Registering.{register_of}
 use Rattle.plans.specs.Plan.{lists}
-use Rattle.registrar.specs.Changes.{kept_entries}
+use Rattle.registrar.specs.Changes.{listing_of}
 use Rattle.event_rows.specs.Rows.{after, row, row_by, rule_row, setting, what_row}
 use Rattle.event_rows.specs.State.{Contents, after_event, moment_at, office, registered_by}
 use Rattle.step_laws.specs.Registering.{BringsUsers, Lists, ListsBound, Refuses, Registers, TakesUsers, registration_at}
@@ -102,7 +102,7 @@ stands_after s event source r id h rules history stands =
 -- ---- a list of users
 
 module _ (s : Contents) (event : Event) (users : List (List ℕ)) (h : BringsUsers s event users) where
-  pub list_row : row s event ≡ of_plan (office s) (lists (kept_entries s.registrar.entries users))
+  pub list_row : row s event ≡ of_plan (office s) (lists (listing_of s.registrar users))
   unfolding row what_row
   list_row = ap (row_by s event) h.counts ∙ ap (what_row (office s) (moment_at s event.now) event.salt) h.what
 

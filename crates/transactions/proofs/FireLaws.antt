@@ -25,6 +25,7 @@ use Rattle.transaction_machines.specs.declared.step.Starts.TheVariants as starts
 use Rattle.transaction_machines.specs.declared.step.Stops.{Stops}
 use Rattle.transaction_machines.specs.declared.step.Stops.TheVariants as stops
 use Rattle.transaction_machines.specs.declared.step.Step.{Step}
+use Rattle.index.specs.declared.print.PrintKey.{PrintKey}
 use Rattle.transactions.specs.declared.rules.TableRules.{TableRules}
 use Rattle.transactions.specs.declared.transaction.TimerId.{TimerId}
 use Rattle.transactions.specs.declared.transaction.Transaction.{Transaction}
@@ -220,6 +221,10 @@ some_there (Some t) some = (t, refl)
 no_rules : TableRules
 no_rules = record { first_wait = 0; share = None }
 
+-- whatever the key of its prints
+no_key : PrintKey
+no_key = record { first = 0; second = 0 }
+
 -- the same, of what the code made of slots and timers
 pub fireable_carried : (slots slots_then : List (Option Transaction)) (timers reserved left timers_then : List (Timer TimerId)) (id : ℕ) (step : Step) (fresh : Option (List ℕ)) (now : ℕ)
     → IsFireable slots timers → IsSome (at slots id)
@@ -229,7 +234,7 @@ pub fireable_carried : (slots slots_then : List (Option Transaction)) (timers re
     → IsFireable slots_then timers_then
 fireable_carried slots slots_then timers reserved left timers_then id step fresh now fireable some follow written e f g =
     let one = some_there (at slots id) some in
-    rw (written one.0 one.1, g, f, e) (fireable_stepped (record { slots = slots; timers = timers; rules = no_rules }) id one.0 step fresh now fireable one.1 (follow one.0 one.1))
+    rw (written one.0 one.1, g, f, e) (fireable_stepped (record { slots = slots; timers = timers; rules = no_rules; key = no_key }) id one.0 step fresh now fireable one.1 (follow one.0 one.1))
 
 -- ---- a new transaction
 
@@ -283,7 +288,7 @@ pub fireable_placed : (slots slots_then : List (Option Transaction)) (timers res
     → id ≡ free_number slots → slots_then ≡ placed slots id u → reserved ≡ timers → timers_then ≡ started reserved id ss now
     → IsFireable slots_then timers_then
 fireable_placed slots slots_then timers reserved timers_then id u ss now fireable lines sent_once e f g h =
-    rw (f, h, g, e) (fireable_with (record { slots = slots; timers = timers; rules = no_rules }) u ss now fireable lines sent_once)
+    rw (f, h, g, e) (fireable_with (record { slots = slots; timers = timers; rules = no_rules; key = no_key }) u ss now fireable lines sent_once)
 
 -- ---- a timer that is due
 
@@ -341,12 +346,12 @@ pub due_fires : (table : Contents) (timer : TimerId) (now : ℕ) → IsFireable 
 due_fires table timer now fireable due =
     fires_at table.slots timer (at table.slots timer.id) refl (due_line table.slots table.timers timer now fireable.lines due) fireable.sent
 
-pub fires_then : (slots : List (Option Transaction)) (timers : List (Timer TimerId)) (rules : TableRules) (table : Contents) (timer : TimerId) (now : ℕ)
-    → IsFireable slots timers → record { slots = slots; timers = timers; rules = rules } ≡ table → true ≡ is_due table timer now
+pub fires_then : (slots : List (Option Transaction)) (timers : List (Timer TimerId)) (rules : TableRules) (key : PrintKey) (table : Contents) (timer : TimerId) (now : ℕ)
+    → IsFireable slots timers → record { slots = slots; timers = timers; rules = rules; key = key } ≡ table → true ≡ is_due table timer now
     → (found : Option Transaction) → found ≡ at slots timer.id → is_some (fired_of found timer.kind) ≡ true
-fires_then slots timers rules table timer now fireable view due found there =
+fires_then slots timers rules key table timer now fireable view due found there =
     ap (λ o. is_some (fired_of o timer.kind)) there
-    ∙ due_fires (record { slots = slots; timers = timers; rules = rules }) timer now fireable (ap (λ v. is_due v timer now) view ∙ sym due)
+    ∙ due_fires (record { slots = slots; timers = timers; rules = rules; key = key }) timer now fireable (ap (λ v. is_due v timer now) view ∙ sym due)
 
 -- ---- what is fresh where it is asked for
 

@@ -1,6 +1,7 @@
 -- The table of transactions, and what each call does to it.
 use Rattle.std.specs.Prelude.{◌≡◌, ℕ, ◌≤◌, Bool, true, false, not, ◌&&◌, ◌||◌, List, [], ◌∷◌, ◌++◌, length, codes, Option, Some, None, option_map, option_and_then, is_some, position, slice_set, nat_lt, nat_le, if◌then◌else◌}
 use Rattle.std.specs.List.{list_any}
+use Rattle.index.specs.declared.print.PrintKey.{PrintKey}
 use Rattle.timers.specs.declared.timers.Timer.{Timer}
 use Rattle.timers.specs.Queue.{moment}
 use Rattle.sip_message.specs.declared.message.Message.{Message}
@@ -39,11 +40,13 @@ use Rattle.transactions.specs.Transactions.{went, sent, outgoing}
 use Rattle.transactions.specs.Waiting.{starts_within}
 
 -- Place i of the slots has the transaction with the number i. The timers are in the order in which they are due, each
--- key once: that is what `next`, `first_due` and `timer_count` say of every table.
+-- key once: that is what `next`, `first_due` and `timer_count` say of every table. The key is that of the prints under
+-- which transactions are looked up; it never changes.
 pub record Contents : Type 0 where
   pub slots : List (Option Transaction)
   pub timers : List (Timer TimerId)
   pub rules : TableRules
+  pub key : PrintKey
 
 -- ---- a step, and a new transaction
 
@@ -53,6 +56,7 @@ stepped table id t step fresh now = record {
   slots = slice_set table.slots id (option_map (went t fresh) step.next);
   timers = started (stopped_by table.timers id step.stops) id step.starts now;
   rules = table.rules;
+  key = table.key;
 }
 
 abbrev pub stepped_by : Contents → ℕ → Transaction → Option (List ℕ) → ℕ → Option Step → Contents
@@ -91,6 +95,7 @@ placed_with table t starts now = record {
   slots = placed table.slots (free_number table.slots) t;
   timers = started table.timers (free_number table.slots) starts now;
   rules = table.rules;
+  key = table.key;
 }
 
 -- the same, where an INVITE that begins a dialog is given up sooner

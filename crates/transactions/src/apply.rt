@@ -81,6 +81,7 @@ pub(crate) fn make_room_for(
     change: &Change,
 ) -> Result<(), AllocError>
     ensures slots { places.new.slots ≡ places.old.slots }
+    ensures key { places.new.key ≡ places.old.key }
     ensures timers { timers.new.timers ≡ timers.old.timers }
     ensures places_room { OnOk result (places_of change.now ≤ places.new.room) }
     ensures timers_room { OnOk result (timers_of places.old.slots change.now ≤ timers.new.room) }
@@ -99,6 +100,7 @@ pub(crate) fn make_room(
     count: usize,
 ) -> Result<(), AllocError>
     ensures slots { places.new.slots ≡ places.old.slots }
+    ensures key { places.new.key ≡ places.old.key }
     ensures timers { timers.new.timers ≡ timers.old.timers }
     ensures places_room { OnOk result (count ≤ places.new.room) }
     ensures timers_room { OnOk result (2 * count ≤ timers.new.room) }
@@ -123,7 +125,7 @@ pub(crate) fn enter_all(
     requires fireable { IsFireable places.old.slots timers.old.timers }
     requires places_room { length changes.items ≤ places.old.room }
     requires timers_room { 2 * length changes.items ≤ timers.old.room }
-    ensures table { record { slots = places.new.slots; timers = timers.new.timers; rules = rules } ≡ entered_all now (record { slots = places.old.slots; timers = timers.old.timers; rules = rules }) changes.items }
+    ensures table { record { slots = places.new.slots; timers = timers.new.timers; rules = rules; key = places.new.key } ≡ entered_all now (record { slots = places.old.slots; timers = timers.old.timers; rules = rules; key = places.old.key }) changes.items }
     ensures fireable { IsFireable places.new.slots timers.new.timers }
 {
     for change in changes {
@@ -143,7 +145,7 @@ pub(crate) fn enter(
     requires fireable { IsFireable places.old.slots timers.old.timers }
     requires places_room { places_of change ≤ places.old.room }
     requires timers_room { timers_of places.old.slots change ≤ timers.old.room }
-    ensures table { record { slots = places.new.slots; timers = timers.new.timers; rules = rules } ≡ entered now (record { slots = places.old.slots; timers = timers.old.timers; rules = rules }) change }
+    ensures table { record { slots = places.new.slots; timers = timers.new.timers; rules = rules; key = places.new.key } ≡ entered now (record { slots = places.old.slots; timers = timers.old.timers; rules = rules; key = places.old.key }) change }
     ensures fireable { IsFireable places.new.slots timers.new.timers }
     ensures places_room { places.old.room ≤ places.new.room + 1 }
     ensures timers_room { timers.old.room ≤ timers.new.room + 2 }
@@ -179,7 +181,7 @@ fn open(
     requires fireable { IsFireable places.old.slots timers.old.timers }
     requires places_room { 0 < places.old.room }
     requires timers_room { starts_count starts ≤ timers.old.room }
-    ensures table { record { slots = places.new.slots; timers = timers.new.timers; rules = rules } ≡ opened (record { slots = places.old.slots; timers = timers.old.timers; rules = rules }) transaction starts now }
+    ensures table { record { slots = places.new.slots; timers = timers.new.timers; rules = rules; key = places.new.key } ≡ opened (record { slots = places.old.slots; timers = timers.old.timers; rules = rules; key = places.old.key }) transaction starts now }
     ensures fireable { IsFireable places.new.slots timers.new.timers }
     ensures places_room { places.old.room ≤ places.new.room + 1 }
     ensures timers_room { timers.old.room ≤ timers.new.room + 2 }
@@ -202,7 +204,7 @@ fn tell(
     requires given { is_answer input ≡ true → is_some fresh ≡ true }
     requires fireable { IsFireable places.old.slots timers.old.timers }
     requires timers_room { line_timers places.old.slots id input ≤ timers.old.room }
-    ensures table { (rules : TableRules) → record { slots = places.new.slots; timers = timers.new.timers; rules = rules } ≡ table_at (record { slots = places.old.slots; timers = timers.old.timers; rules = rules }) id (at places.old.slots id) input fresh.entry now }
+    ensures table { (rules : TableRules) → record { slots = places.new.slots; timers = timers.new.timers; rules = rules; key = places.new.key } ≡ table_at (record { slots = places.old.slots; timers = timers.old.timers; rules = rules; key = places.old.key }) id (at places.old.slots id) input fresh.entry now }
     ensures fireable { IsFireable places.new.slots timers.new.timers }
     ensures places_room { places.old.room ≤ places.new.room + 1 }
     ensures timers_room { timers.old.room ≤ timers.new.room + 2 }
@@ -234,7 +236,7 @@ fn carry_out(
     requires follows { (t : Transaction) → at places.old.slots id ≡ Some t → IsTrue (follows t.state (is_some fresh) step) }
     requires fireable { IsFireable places.old.slots timers.old.timers }
     requires timers_room { starts_count step.starts ≤ timers.old.room }
-    ensures table { (rules : TableRules) (t : Transaction) → at places.old.slots id ≡ Some t → record { slots = places.new.slots; timers = timers.new.timers; rules = rules } ≡ stepped (record { slots = places.old.slots; timers = timers.old.timers; rules = rules }) id t step fresh.entry now }
+    ensures table { (rules : TableRules) (t : Transaction) → at places.old.slots id ≡ Some t → record { slots = places.new.slots; timers = timers.new.timers; rules = rules; key = places.new.key } ≡ stepped (record { slots = places.old.slots; timers = timers.old.timers; rules = rules; key = places.old.key }) id t step fresh.entry now }
     ensures fireable { IsFireable places.new.slots timers.new.timers }
     ensures places_room { places.old.room ≤ places.new.room + 1 }
     ensures timers_room { timers.old.room ≤ timers.new.room + 2 }

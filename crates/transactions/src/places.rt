@@ -66,7 +66,8 @@ impl Model for Places {
 impl Places {
     /// No transactions. Takes no memory.
     pub(crate) fn new(alloc: Global, key: PrintKey) -> Places
-        ensures { result.slots ≡ [] }
+        ensures slots { result.slots ≡ [] }
+        ensures key { result.key ≡ key }
     {
         Places {
             slots: Vec::new(alloc),
@@ -140,6 +141,7 @@ impl Places {
     /// Makes room for `n` transactions more, and for the end of each existing one.
     pub(crate) fn reserve(&mut self, n: usize) -> Result<(), AllocError>
         ensures slots { self.new.slots ≡ self.old.slots }
+        ensures key { self.new.key ≡ self.old.key }
         ensures ok { OnOk result (n ≤ self.new.room) }
         ensures room { self.old.room ≤ self.new.room }
         // Nothing is refused that takes no room.
@@ -154,6 +156,7 @@ impl Places {
     fn make_room(&mut self, n: usize) -> Result<(), AllocError>
         requires { self.old.room < n }
         ensures slots { self.new.slots ≡ self.old.slots }
+        ensures key { self.new.key ≡ self.old.key }
         ensures ok { OnOk result (n ≤ self.new.room) }
         ensures room { self.old.room ≤ self.new.room }
     {
@@ -179,6 +182,7 @@ impl Places {
         requires known { IsPrintOf known transaction.parts.vias }
         ensures number { result ≡ free_number self.old.slots }
         ensures slots { self.new.slots ≡ placed self.old.slots (free_number self.old.slots) transaction }
+        ensures key { self.new.key ≡ self.old.key }
         ensures room { self.old.room ≤ self.new.room + 1 }
     {
         let number = self.free_number();
@@ -202,6 +206,7 @@ impl Places {
         requires side { IfSome next (KeepsSide self.old.slots id) }
         ensures slots { (t : Transaction) → at self.old.slots id ≡ Some t →
             self.new.slots ≡ slice_set self.old.slots id (option_map (went t fresh.entry) next) }
+        ensures key { self.new.key ≡ self.old.key }
         ensures room { self.old.room ≤ self.new.room }
     {
         match next {
@@ -216,6 +221,7 @@ impl Places {
         requires side { KeepsSide self.old.slots id state }
         ensures slots { (t : Transaction) → at self.old.slots id ≡ Some t →
             self.new.slots ≡ slice_set self.old.slots id (Some (went t fresh.entry state)) }
+        ensures key { self.new.key ≡ self.old.key }
         ensures room { self.old.room ≤ self.new.room }
     {
         self.slots[id].advance(fresh, state);
@@ -225,6 +231,7 @@ impl Places {
     fn end(&mut self, id: usize)
         requires { IsSome (at self.old.slots id) }
         ensures slots { self.new.slots ≡ slice_set self.old.slots id None }
+        ensures key { self.new.key ≡ self.old.key }
         ensures room { self.old.room ≤ self.new.room }
     {
         let prints = self.prints[id];

@@ -64,19 +64,20 @@ impl Model for Table {
 
     ghost Value = { Contents };
 
-    ghost view = { λ t. record { slots = t.places.slots; timers = t.timers.timers; rules = t.rules } };
+    ghost view = { λ t. record { slots = t.places.slots; timers = t.timers.timers; rules = t.rules; key = t.places.key } };
 
     // So each timer that is due does something when it fires.
     ghost invariant = { λ t. IsFireable t.places.slots t.timers.timers };
 }
 
 impl Table {
-    /// A table without transactions, which follows these rules and looks them up by prints under this key. No result
-    /// depends on the key. Takes no memory.
+    /// A table without transactions, which follows these rules and looks them up by prints under this key, and no
+    /// other, for good. No other result depends on the key. Takes no memory.
     pub fn new(alloc: Global, key: PrintKey, rules: TableRules) -> Self
         ensures slots { result.slots ≡ [] }
         ensures timers { result.timers ≡ [] }
         ensures rules { result.rules ≡ rules }
+        ensures key { result.key ≡ key }
     {
         Table {
             alloc,

@@ -36,7 +36,7 @@ use Rattle.plans.specs.declared.taken.Why.TheVariants.{NoBranch, Stray, Unread}
 use Rattle.plans.specs.CallRows.{call_timer_at, call_timer_row, of_plan, takes, timed_out, timed_out_at, timeout_row, timer_input, times_responses, without_call_timer}
 use Rattle.plans.specs.Effect.{Effect}
 use Rattle.plans.specs.Plan.{lists, moves, nothing}
-use Rattle.registrar.specs.Changes.{kept_entries}
+use Rattle.registrar.specs.Changes.{listing_of}
 use Rattle.plans.specs.declared.reason.Reason.TheVariants as reasons
 use Rattle.event_rows.specs.Rows.{by_reading, datagram_row, due_row, ends, fires_by, fit_row, is_unreachable_message, no_source, parts_of, read_row, received, refuses_alone, setting, timer_row, unfit_branch, unread_by, unread_row, what_row}
 use Rattle.responses.specs.Words.{has_fit_branch, is_method as request_method}
@@ -99,7 +99,7 @@ pub data DueRow (s : Office) (e : Setting) (x : Effect) : Type 0 where
   call_fired : (timer : CallTimerId) (place : ℕ) → place_by_number timer.number s.calls.calls ≡ Some place
       → x ≡ takes (without_call_timer timer s) e [] None None place (timer_input timer.timer) None → DueRow s e x
   -- these are the office's users from now on
-  listed : (users : List (List ℕ)) → x ≡ of_plan s (lists (kept_entries s.registrar.entries users)) → DueRow s e x
+  listed : (users : List (List ℕ)) → x ≡ of_plan s (lists (listing_of s.registrar users)) → DueRow s e x
 
 timed_at_view : (s : Office) (e : Setting) (timer : TimerId) (t : Transaction) (place : Option ℕ) → fired_of (at s.table.slots timer.id) timer.kind ≡ Some fires.TimedOut → times_responses timer.kind ≡ true
     → at s.table.slots timer.id ≡ Some t → timeout_rule s.calls.calls t.parts ≡ place → DueRow s e (timed_out_at s e (fire_of timer ∷ []) place)

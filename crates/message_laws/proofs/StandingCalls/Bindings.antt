@@ -201,7 +201,7 @@ answer_bound r register now read each = answer_bound_for (rules_of r) (bindings_
 abbrev pub IsBoundPlan : Option RegistrarChange → Type 0
 IsBoundPlan None = Unit {0}
 IsBoundPlan (Some (Binds plan)) = All IsBound plan.bindings
-IsBoundPlan (Some (Lists entries)) = (user : List ℕ) → All IsBound (bindings_of entries user)
+IsBoundPlan (Some (Lists listing)) = (user : List ℕ) → All IsBound (bindings_of listing.entries user)
 
 plan_bound : (user : Option (List ℕ)) (bindings : List Binding) → All IsBound bindings → IsBoundPlan (option_map Binds (option_map (λ u. plan_of u bindings) user))
 plan_bound None bindings all = tt

@@ -216,7 +216,7 @@ registered_bound : (r : registrar.Contents) (change : Option RegistrarChange) �
     → (user : List ℕ) → All IsBound (bindings_of (registered_by r change).entries user)
 registered_bound r None bound each user = each user
 registered_bound r (Some (Binds plan)) bound each user = entries_bound plan.user plan.bindings r.entries user bound (each user)
-registered_bound r (Some (Lists entries)) bound each user = bound user
+registered_bound r (Some (Lists listing)) bound each user = bound user
 
 knows_by : (s : Contents) → KnowsDialogs (office s) → (now : ℕ) (x : Effect) → Sounds (office s) x → KnowsDialogs (office (after_event s now x))
 unfolding after_event

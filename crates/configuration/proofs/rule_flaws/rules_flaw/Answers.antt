@@ -1,6 +1,5 @@
 use Rattle.std.proofs.Common.{◌∙◌, ap₂}
 use Rattle.std.specs.Option.{option_or}
-use Rattle.toml.specs.View.{table_view}
 use Rattle.configuration.specs.Flaws.{relay_flaw, address_flaw, users_flaw, lifetime_flaw, domain_flaw, duration_flaw, share_flaw, rules_flaw}
 use Rattle.configuration.proofs.FlawLaws.{grouped_rules}
 use Rattle.configuration.proofs.rule_flaws.rules_flaw.Goals as goal
@@ -8,7 +7,6 @@ use Rattle.configuration.proofs.rule_flaws.rules_flaw.Goals as goal
 pub returns : goal.returns
 unfolding rules_flaw
 returns c =
-    let ms = table_view c.args.table.now in
     let config = c.args.config.now in
     let a = c.or.ensures ∙ ap₂ option_or c.relay_flaw.ensures c.address_flaw.ensures in
     let b = c.or-2.ensures ∙ ap₂ option_or a c.users_flaw.ensures in
@@ -16,4 +14,4 @@ returns c =
     let e = c.or-4.ensures ∙ ap₂ option_or d c.domain_flaw.ensures in
     let f = c.or-5.ensures ∙ ap₂ option_or e c.duration_flaw.ensures in
     c.or-6.ensures ∙ ap₂ option_or f c.share_flaw.ensures ∙ grouped_rules
-    (relay_flaw ms config) (address_flaw ms config) (users_flaw config) (lifetime_flaw ms config) (domain_flaw config) (duration_flaw ms config) (share_flaw ms config)
+    (relay_flaw config) (address_flaw config) (users_flaw config) (lifetime_flaw config) (domain_flaw config) (duration_flaw config) (share_flaw config)

@@ -1,4 +1,5 @@
 use Rattle.std.proofs.Common.{◌≡◌, ℕ, true, refl, ap, subst, sym, ◌∙◌}
+use Rattle.index.specs.declared.print.PrintKey.{PrintKey}
 use Rattle.transaction_machines.specs.declared.step.Starts.{Starts}
 use Rattle.transaction_machines.specs.Lines.{starts_with_lines}
 use Rattle.transactions.specs.declared.transaction.Transaction.{Transaction}
@@ -24,5 +25,11 @@ returns-clause-table c =
     let within = c.starts_within-within.ensures.starts ∙ ap (λ (t : Transaction). starts_within c.args.rules.first_wait t.parts c.args.starts) c.get.ensures in
     let timers = c.set_all.ensures.timers ∙ ap (λ (n : ℕ). started c.args.timers.now.timers n c.starts_within-within.result c.args.now) c.open-id.ensures.number
     ∙ ap (λ (ss : Starts). started c.args.timers.now.timers (free_number slots) ss c.args.now) within in
-    ap (λ l. record { slots = l; timers = c.set_all.new.timers.timers; rules = c.args.rules }) c.open-id.ensures.slots
-    ∙ ap (λ ts. record { slots = placed slots (free_number slots) c.args.transaction; timers = ts; rules = c.args.rules }) timers
+    ap (λ l. record { slots = l; timers = c.set_all.new.timers.timers; rules = c.args.rules; key = c.open-id.new.self.key }) c.open-id.ensures.slots
+    ∙ ap (λ ts. record { slots = placed slots (free_number slots) c.args.transaction; timers = ts; rules = c.args.rules; key = c.open-id.new.self.key }) timers
+    ∙ ap (λ (k : PrintKey). record {
+      slots = placed slots (free_number slots) c.args.transaction;
+      timers = started c.args.timers.now.timers (free_number slots) (starts_within c.args.rules.first_wait c.args.transaction.parts c.args.starts) c.args.now;
+      rules = c.args.rules;
+      key = k;
+    }) c.open-id.ensures.key

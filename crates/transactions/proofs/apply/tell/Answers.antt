@@ -17,7 +17,7 @@ carry_out-requires-clause-follows c =
 pub returns-clause-table : goal.returns-clause-table
 returns-clause-table c = λ rules.
     let t = c.in-Some.transaction.now in
-    let table : Contents = record { slots = c.args.places.now.slots; timers = c.args.timers.now.timers; rules = rules } in
+    let table : Contents = record { slots = c.args.places.now.slots; timers = c.args.timers.now.timers; rules = rules; key = c.args.places.now.key } in
     let there = c.in-Some.ensures ∙ ap (λ l. at l c.args.id) c.slots.ensures in
     c.carry_out.ensures.table rules t (sym there)
     ∙ ap (λ (line : Option Step). stepped_by table c.args.id t c.args.fresh c.args.now line) c.in-Some-advance.ensures.row

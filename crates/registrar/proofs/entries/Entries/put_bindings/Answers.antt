@@ -4,7 +4,7 @@ use Rattle.registrar.specs.Registrar.{is_for}
 use Rattle.registrar.proofs.EntryLaws.{none_changed}
 use Rattle.registrar.proofs.entries.Entries.put_bindings.Goals as goal
 
-pub returns-in_default : goal.returns-in_default
-returns-in_default c =
-    let none = sym (is_some-position (is_for c.args.user.now) c.args.self.now) ∙ ap is_some (sym c.place_of.ensures.place ∙ c.in_default.is) in
-    sym (none_changed c.args.self.now c.args.user.now c.args.bindings none)
+pub returns-in_default-clause-entries : goal.returns-in_default-clause-entries
+returns-in_default-clause-entries c =
+    let none = sym (is_some-position (is_for c.args.user.now) c.args.self.now.entries) ∙ ap is_some (sym c.place_of.ensures.place ∙ c.in_default.is) in
+    sym (none_changed c.args.self.now.entries c.args.user.now c.args.bindings none)
