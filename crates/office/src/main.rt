@@ -2,9 +2,7 @@
 //! streams to the library `server`. It serves telephones with the sockets, the clock and the threads of the system.
 #![tactic(auto)]
 
-mod announcement;
 mod counts;
-mod disk;
 mod event_log;
 mod file_thread;
 mod log_lines;
@@ -22,13 +20,12 @@ mod telephony;
 mod threads;
 mod troubles;
 mod user_desk;
-mod watch;
 mod wire;
 
-use crate::disk::Disk;
 use crate::file_thread::{FileEnds, FileThread, file_ends};
 use crate::shared::Shared;
 use crate::telephony::Telephony;
+use host::Disk;
 use server::{Asked, CommandError, Ending, command, run};
 use sockets::LastWords;
 use std::alloc::{AllocError, Global};

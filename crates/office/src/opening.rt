@@ -1,7 +1,8 @@
 //! What a server opens before it serves.
 
-use crate::refusal::{Refusal, lacks_descriptors};
+use crate::refusal::Refusal;
 use configuration::Config;
+use host::lacks_descriptors;
 use page_server::PageServer;
 use sockets::{Sockets, Unbound, bind};
 use std::fs::Files;
@@ -17,7 +18,7 @@ pub(crate) struct Opened {
 /// The sockets for SIP and media.
 fn open_sockets<R: Net + Files + AllocGlobal>(rt: &R, config: &Config) -> Result<Sockets, Refusal> {
     match lacks_descriptors(rt, config) {
-        Some(refusal) => Err(refusal),
+        Some(few) => Err(Refusal::Descriptors(few)),
         None => bind(rt, rt.alloc(), config).map_err(Refusal::Unbound),
     }
 }

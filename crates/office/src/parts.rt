@@ -1,15 +1,14 @@
 //! What a server is made of, before it has a board.
 
-use crate::announcement::Announcement;
 use crate::file_thread::FileEnds;
 use crate::log_lines::LogLines;
 use crate::log_writer::LogWriter;
 use crate::opening::Opened;
 use crate::page_thread::Page;
 use crate::user_desk::UserDesk;
-use crate::watch::Watch;
 use crate::wire::SipWire;
 use configuration::Config;
+use host::{Announcement, SystemClock};
 use page_desk::{StatusDesk, desks};
 use page_server::PageServer;
 use rtrb::RingBuffer;
@@ -103,7 +102,7 @@ fn user_desk(
     }
 }
 
-impl<'a, R: Clock + AllocGlobal> Parts<Announcement<'a, R>, Watch<'a, R>> {
+impl<'a, R: Clock + AllocGlobal> Parts<Announcement<'a, R>, SystemClock<'a, R>> {
     /// The parts of a server with these sockets, and with a thread that looks at the file of its configuration, if
     /// there is one.
     pub(crate) fn new(
@@ -112,9 +111,9 @@ impl<'a, R: Clock + AllocGlobal> Parts<Announcement<'a, R>, Watch<'a, R>> {
         opened: Opened,
         file: Option<FileEnds>,
         turns: Option<u64>,
-    ) -> Result<Parts<Announcement<'a, R>, Watch<'a, R>>, HostFault> {
+    ) -> Result<Parts<Announcement<'a, R>, SystemClock<'a, R>>, HostFault> {
         let alloc = rt.alloc();
-        let watch = Watch::new(rt).map_err(host_fault)?;
+        let watch = SystemClock::new(rt).map_err(host_fault)?;
         let start = rt.since_1970().map_err(host_fault)?;
         let Opened {
             sockets: Sockets { sip, relay },

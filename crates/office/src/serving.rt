@@ -3,7 +3,6 @@
 ghost use Rattle.std.specs.Prelude.{◌≡◌, []};
 ghost use Rattle.live.specs.Turns.{HasTable};
 
-use crate::announcement::Announcer;
 use crate::event_log::EventLog;
 use crate::media_log::MediaLog;
 use crate::parts::{Beside, Parts};
@@ -13,6 +12,7 @@ use crate::troubles::Troubles;
 use crate::wire::SipWire;
 use agent::Tally;
 use configuration::Config;
+use host::Announcer;
 use live::{Clock as Moments, Signalling};
 use relay::{Board, Unopened, Viewer};
 use server::HostFault;

@@ -1,6 +1,5 @@
 //! An office on sockets.
 
-use crate::announcement::warn_of_zeros;
 use crate::counts::counts_line;
 use crate::file_thread::FileEnds;
 use crate::opening::open_all;
@@ -10,6 +9,7 @@ use crate::serving::serve_on_board;
 use crate::shared::Shared;
 use agent::Tally;
 use configuration::Config;
+use host::warning;
 use server::{Host, HostFault};
 use sockets::LastWords;
 use std::alloc::Global;
@@ -40,6 +40,13 @@ fn report<R: Wait>(last_words: &mut LastWords<'_, R>, alloc: Global, tally: Tall
     }
 }
 
+/// Writes the warning of a configuration, if it has one.
+fn warn<R: Wait>(last_words: &mut LastWords<'_, R>, config: &Config) {
+    if let Some(warning) = warning(config) {
+        last_words.put(warning.as_bytes());
+    }
+}
+
 impl<R: Net + Files + Clock + Threads + Wait + Sync + Shared + Print + AllocGlobal> Host
     for Telephony<'_, R> {
     ghost use Rattle.std.specs.Prelude.{option_map};
@@ -48,7 +55,7 @@ impl<R: Net + Files + Clock + Threads + Wait + Sync + Shared + Print + AllocGlob
 
     fn serve(&mut self, config: &Config, turns: Option<u64>) -> Result<(), HostFault> {
         self.request = Some((Snapshot::of(config), turns));
-        warn_of_zeros(self.rt, config);
+        warn(&mut self.last_words, config);
         let opened = match open_all(self.rt, config) {
             Ok(opened) => opened,
             Err(refusal) => {

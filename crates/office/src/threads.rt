@@ -2,9 +2,9 @@
 
 ghost use Rattle.live.specs.Turns.{HasTable};
 
-use crate::announcement::Announcer;
 use crate::log_writer::LogWriter;
 use crate::page_thread::{Page, serve_page};
+use host::Announcer;
 use live::{Clock as Moments, End, Operator, Signalling, Wire};
 use relay::{Worker, serve_media};
 use server::HostFault;

@@ -2,10 +2,10 @@
 use Rattle.std.proofs.Common.{◌≡◌, ◌≢◌, ℕ, ◌+◌, ◌-◌, ◌<◌, ◌≤◌, Bool, true, false, cond, List, [], ◌∷◌, ◌++◌, drop, get_or, length, ltb, map, take, Result, Ok, Err, OnOk, OnErr, refl, sym, subst, ap, ◌∙◌, inl, inr, arith}
 use Rattle.std.specs.List.{All, concat}
 use Rattle.std.proofs.lemmas.Bool.{cases_lt, ltb-true, lt-ltb}
-use Rattle.std.proofs.lemmas.List.{append_assoc, append-nil, drop-append-le, drop-drop, length-append, length-drop, map-append, take-append-le, take-take, take_all, take_more}
+use Rattle.std.proofs.lemmas.List.{append_assoc, append-nil, drop-append-le, drop-drop, length-append, length-drop, length-take-le, map-append, take-append-le, take-take, take_all, take_more}
 use Rattle.std.proofs.lemmas.List.Elements.{All-nil, All-push}
 use Rattle.std.proofs.lemmas.List.Folds.{concat-append}
-use Rattle.page_desk.specs.Rings.{GoesOn}
+use Rattle.page_desk.specs.Rings.{GoesOn, IsAll, block_of_lines}
 use Rattle.page_desk.specs.Lines.{Contents, IsText, Keeps, Lacks, ended, last_lines, line_feed, max_lines, with_line, with_one}
 
 pub of_nothing : Keeps [] (record { lines = []; rest = [] })
@@ -85,22 +85,36 @@ of_block count len slice items within fits =
     take-take count len (slice ++ drop (length slice) items) fits
     ∙ take-append-le count slice (drop (length slice) items) within
 
+-- a block that was not filled leaves nothing that is known
+pub all_known : (count : ℕ) (slice left : List ℕ) → count ≤ length slice → length slice ≡ block_of_lines → (count < length slice → length left ≡ 0)
+    → IsAll block_of_lines (take count slice) left
+all_known count slice left within full most = elim (cases_lt count (length slice)) [
+  | inl fewer ↦ inl (empty left (most fewer))
+  | inr all ↦ inr (omega (arith, length-take-le count slice within, within, all, full))
+] where
+  empty : (xs : List ℕ) → length xs ≡ 0 → xs ≡ []
+  empty [] h = refl
+  empty (x ∷ xs) h = absurd cc
+
 -- the bytes of a block that were taken are added, or its first ones
-pub going_on : {T E : Type 0} (r : Result T E) (before after bytes given : List ℕ) (old new : Contents) → given ≡ bytes → after ≡ before ++ bytes
+pub going_on : {T E : Type 0} (r : Result T E) (before after left bytes given : List ℕ) (old new : Contents) → given ≡ bytes → after ≡ before ++ bytes
+    → IsAll block_of_lines bytes left
     → OnOk r ((text : List ℕ) → Keeps text old → Keeps (text ++ given) new)
     → OnErr r ((count : ℕ) × (count ≤ length given) × ((text : List ℕ) → Keeps text old → Keeps (text ++ take count given) new))
-    → GoesOn before after old new
-going_on (Ok x) before after bytes given old new same taken all few = record {
+    → GoesOn before after left old new
+going_on (Ok x) before after left bytes given old new same taken every all few = record {
   items = given;
   count = length given;
   taken = taken ∙ ap (λ b. before ++ b) (sym same);
+  all = subst (λ b. IsAll block_of_lines b left) (sym same) every;
   few = omega arith;
   goes_on = λ text keeps. subst (λ b. Keeps (text ++ b) new) (sym (take_all (length given) given (omega arith))) (all text keeps);
 }
-going_on (Err e) before after bytes given old new same taken all few = record {
+going_on (Err e) before after left bytes given old new same taken every all few = record {
   items = given;
   count = few.0;
   taken = taken ∙ ap (λ b. before ++ b) (sym same);
+  all = subst (λ b. IsAll block_of_lines b left) (sym same) every;
   few = few.1;
   goes_on = few.2;
 }

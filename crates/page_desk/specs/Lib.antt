@@ -1,4 +1,5 @@
 pub mod Latest
 pub mod Lines
 pub mod Rings
+pub mod Shown
 pub mod Snapshots

@@ -1,9 +1,10 @@
 //! Both ends of what the page shows.
 
-ghost use Rattle.std.specs.Prelude.{◌≡◌, [], false, IfOk};
+ghost use Rattle.std.specs.Prelude.{◌≡◌, [], None, false, IfOk};
 ghost use Rattle.rtrb.specs.Ring.{IsPair, producer_capacity};
 ghost use Rattle.page_desk.specs.Latest.{is_fresh};
 ghost use Rattle.page_desk.specs.Lines.{Keeps};
+ghost use Rattle.page_desk.specs.Rings.{room_of_lines, room_of_moments};
 
 use crate::page_desk::{PageDesk, ROOM_OF_MOMENTS};
 use crate::status_desk::StatusDesk;
@@ -24,11 +25,12 @@ pub fn desks(
     started: u64,
 ) -> Result<(StatusDesk, PageDesk), AllocError>
     ensures asks { IfOk result (λ ends. IsPair ends.1.asks ends.0.asked × (producer_capacity ends.1.asks ≡ 1)) }
-    ensures moments { IfOk result (λ ends. IsPair ends.0.moments ends.1.moments) }
+    ensures moments { IfOk result (λ ends. IsPair ends.0.moments ends.1.moments × (producer_capacity ends.0.moments ≡ room_of_moments)) }
     ensures statuses { IfOk result (λ ends. IsPair ends.0.statuses ends.1.statuses × (producer_capacity ends.0.statuses ≡ 1)) }
-    ensures lines { IfOk result (λ ends. IsPair ends.0.lines ends.1.lines) }
+    ensures lines { IfOk result (λ ends. IsPair ends.0.lines ends.1.lines × (producer_capacity ends.0.lines ≡ room_of_lines)) }
     ensures due { IfOk result (λ ends. ends.0.next ≡ 0) }
-    ensures unready { IfOk result (λ ends. is_fresh ends.1.latest ≡ false) }
+    ensures server { IfOk result (λ ends. (ends.1.version.now ≡ version.now) × (ends.1.started ≡ started)) }
+    ensures unready { IfOk result (λ ends. (ends.1.latest.status ≡ None) × (is_fresh ends.1.latest ≡ false)) }
     ensures log { IfOk result (λ ends. Keeps [] ends.1.log) }
 {
     let (asks, asked) = RingBuffer::new(alloc, ROOM_OF_ASKS)?;
@@ -43,7 +45,7 @@ pub fn desks(
         moments_out,
         statuses_out,
         lines_out,
-    )?;
+    );
     let desk = StatusDesk {
         asked,
         moments,

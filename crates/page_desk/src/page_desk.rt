@@ -1,7 +1,7 @@
 //! The end of the page's thread.
 
-ghost use Rattle.std.specs.Prelude.{◌≡◌, ◌≤◌, ◌∷◌, ◌++◌, [], true, false, ℕ, List, IfOk};
-ghost use Rattle.rtrb.specs.Ring.{received, sent};
+ghost use Rattle.std.specs.Prelude.{◌≡◌, ◌≤◌, ◌∷◌, ◌++◌, [], true, false, ℕ, List, None};
+ghost use Rattle.rtrb.specs.Ring.{known_items, received, sent};
 ghost use Rattle.page_desk.specs.Latest.{is_fresh};
 ghost use Rattle.page_desk.specs.Lines.{Keeps};
 ghost use Rattle.page_desk.specs.Rings.{GoesOn, IsLastOf, IsPassedOn, TakesStatus};
@@ -32,12 +32,12 @@ pub struct PageDesk {
     pub(crate) lines: Consumer<u8>,
     pub(crate) latest: Latest,
     pub(crate) log: LastLines,
-    block: Vec<u8>,
+    block: [u8; BLOCK],
 }
 
 /// The last of the moments that were passed on; `before` if there were none.
 fn last_of(moments: &mut Consumer<u64>, before: u64) -> u64
-    ensures { IsLastOf before (received moments.old) (received moments.new) result }
+    ensures { IsLastOf before (received moments.old) (received moments.new) (known_items moments.new) result }
 {
     let mut last = before;
     for _ in 0..ROOM_OF_MOMENTS {
@@ -58,15 +58,16 @@ impl PageDesk {
         moments: Consumer<u64>,
         statuses: Consumer<Status>,
         lines: Consumer<u8>,
-    ) -> Result<PageDesk, AllocError>
-        ensures asks { IfOk result (λ desk. desk.asks ≡ asks) }
-        ensures moments { IfOk result (λ desk. desk.moments ≡ moments) }
-        ensures statuses { IfOk result (λ desk. desk.statuses ≡ statuses) }
-        ensures lines { IfOk result (λ desk. desk.lines ≡ lines) }
-        ensures latest { IfOk result (λ desk. is_fresh desk.latest ≡ false) }
-        ensures log { IfOk result (λ desk. Keeps [] desk.log) }
+    ) -> PageDesk
+        ensures server { (result.version.now ≡ version.now) × (result.started ≡ started) }
+        ensures asks { result.asks ≡ asks }
+        ensures moments { result.moments ≡ moments }
+        ensures statuses { result.statuses ≡ statuses }
+        ensures lines { result.lines ≡ lines }
+        ensures latest { (result.latest.status ≡ None) × (is_fresh result.latest ≡ false) }
+        ensures log { Keeps [] result.log }
     {
-        Ok(PageDesk {
+        PageDesk {
             version,
             started,
             asks,
@@ -75,19 +76,19 @@ impl PageDesk {
             lines,
             latest: Latest::new(),
             log: LastLines::new(alloc),
-            block: vec![in alloc; 0; BLOCK]?,
-        })
+            block: [0; BLOCK],
+        }
     }
 
     /// Takes lines of the log that were passed on. Those for which there is no memory are left out.
     fn take_lines(&mut self)
-        ensures lines { GoesOn (received self.old.lines) (received self.new.lines) self.old.log self.new.log }
+        ensures lines { GoesOn (received self.old.lines) (received self.new.lines) (known_items self.new.lines) self.old.log self.new.log }
         ensures latest { self.new.latest ≡ self.old.latest }
         ensures asks { sent self.new.asks ≡ sent self.old.asks }
-        ensures moments { received self.new.moments ≡ received self.old.moments }
+        ensures moments { self.new.moments ≡ self.old.moments }
         ensures statuses { self.new.statuses ≡ self.old.statuses }
     {
-        let count = self.lines.pop_partial_slice(self.block.as_mut_slice());
+        let count = self.lines.pop_partial_slice(&mut self.block);
         let _ = self.log.put(&self.block[..count]);
     }
 
@@ -95,8 +96,8 @@ impl PageDesk {
     fn take_status(&mut self)
         ensures status { TakesStatus self.old.statuses self.new.statuses self.old.latest self.new.latest self.old.latest.moment }
         ensures asks { sent self.new.asks ≡ sent self.old.asks }
-        ensures moments { received self.new.moments ≡ received self.old.moments }
-        ensures lines { received self.new.lines ≡ received self.old.lines }
+        ensures moments { self.new.moments ≡ self.old.moments }
+        ensures lines { self.new.lines ≡ self.old.lines }
         ensures log { self.new.log ≡ self.old.log }
     {
         if let Ok(status) = self.statuses.pop() {
@@ -108,9 +109,9 @@ impl PageDesk {
     /// memory are left out.
     pub fn take(&mut self) -> u64
         ensures now { result ≡ self.new.latest.moment }
-        ensures moments { IsLastOf self.old.latest.moment (received self.old.moments) (received self.new.moments) result }
+        ensures moments { IsLastOf self.old.latest.moment (received self.old.moments) (received self.new.moments) (known_items self.new.moments) result }
         ensures status { TakesStatus self.old.statuses self.new.statuses self.old.latest self.new.latest result }
-        ensures lines { GoesOn (received self.old.lines) (received self.new.lines) self.old.log self.new.log }
+        ensures lines { GoesOn (received self.old.lines) (received self.new.lines) (known_items self.new.lines) self.old.log self.new.log }
         ensures asks { sent self.new.asks ≡ sent self.old.asks }
     {
         self.latest.moment = last_of(&mut self.moments, self.latest.moment);
@@ -121,6 +122,10 @@ impl PageDesk {
 }
 
 impl PageSource for PageDesk {
+    ghost use Rattle.page_desk.specs.Shown.{Shows};
+
+    ghost shows = { λ desk path body. Shows desk path body };
+
     ghost use Rattle.std.specs.Prelude.{◌≡◌, ◌∷◌, [], true, false};
     ghost use Rattle.rtrb.specs.Ring.{sent};
     ghost use Rattle.page_desk.specs.Latest.{is_fresh};

@@ -7,7 +7,7 @@ use std::{fs, io};
 
 /// A file, or a placeholder for one that could not be opened: each read of it fails.
 #[derive(Drop)]
-pub(crate) enum Opened<F> {
+pub enum Opened<F> {
     File(F),
     Unopened,
 }
@@ -23,8 +23,8 @@ impl<F: Read> Read for Opened<F> {
 
 /// The files that a runtime opens.
 #[derive(Drop)]
-pub(crate) struct Disk<'a, R> {
-    pub(crate) rt: &'a R,
+pub struct Disk<'a, R> {
+    pub rt: &'a R,
 }
 
 impl<R: Files> Shelf for Disk<'_, R> {

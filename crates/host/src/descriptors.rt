@@ -1,0 +1,65 @@
+//! How many file descriptors a server needs, and how many the process may have.
+
+ghost use Rattle.std.specs.Prelude.{◌≡◌, ◌<◌, IfSome};
+ghost use Rattle.host.specs.Descriptors.{descriptors_needed, too_few};
+
+use configuration::Config;
+use std::fs;
+use std::fs::Files;
+use thiserror::Error;
+
+/// The process may have `limit` file descriptors, and a server needs `needed`, which are more.
+#[derive(Clone, Copy, Debug, Error)]
+#[error("fd limit {limit}, {needed} are needed")]
+pub struct TooFewDescriptors {
+    pub limit: u64,
+    pub needed: u64,
+}
+
+/// How many descriptors the page takes: its socket, what waits for it, and its connections.
+const FOR_THE_PAGE: u64 = 34;
+
+/// The socket for SIP, what the signalling waits with, the standard streams, and one to spare.
+const FOR_ALL: u64 = 6;
+
+fn descriptors_needed(config: &Config) -> u64
+    ensures { result ≡ descriptors_needed config.now }
+{
+    let of_media = 2 * u64::from(config.relay_pairs) + u64::from(config.workers);
+    let of_page = if config.status.is_some() {
+        FOR_THE_PAGE
+    } else {
+        0
+    };
+    of_media + of_page + FOR_ALL
+}
+
+fn too_few(limit: u64, needed: u64) -> Option<TooFewDescriptors>
+    ensures { result ≡ too_few limit needed }
+{
+    if limit < needed {
+        Some(TooFewDescriptors { limit, needed })
+    } else {
+        None
+    }
+}
+
+/// How many file descriptors the process may have, if Linux says so.
+fn descriptor_limit<R: Files + AllocGlobal>(rt: &R) -> Option<u64> {
+    let told = fs::read(rt, "/proc/self/limits").ok()?;
+    let text = str::from_utf8(&told).ok()?;
+    let (_, behind) = text.split_once("Max open files")?;
+    behind.split_whitespace().next()?.parse::<u64>().ok()
+}
+
+/// Reports that the process may have fewer file descriptors than a server with this configuration needs. None if it
+/// may have enough, or if Linux doesn't say how many.
+pub fn lacks_descriptors<R: Files + AllocGlobal>(
+    rt: &R,
+    config: &Config,
+) -> Option<TooFewDescriptors>
+    ensures needed { IfSome result (λ few. few.needed ≡ descriptors_needed config.now) }
+    ensures fewer { IfSome result (λ few. few.limit < few.needed) }
+{
+    too_few(descriptor_limit(rt)?, descriptors_needed(config))
+}
