@@ -18,17 +18,17 @@ find_none p xs =
     ]
 
 -- the place is that of the first that passes
-record IsFirst (p : CallTraffic → Bool) (calls : List CallTraffic) (at : ℕ) (d : CallTraffic) : Type 0 where
-  within : at < length calls
-  passes : p (get_or calls at d) ≡ true
-  before : (k : ℕ) → k < at → p (get_or calls k d) ≡ false
+pub record IsFirst (p : CallTraffic → Bool) (calls : List CallTraffic) (at : ℕ) (d : CallTraffic) : Type 0 where
+  pub within : at < length calls
+  pub passes : p (get_or calls at d) ≡ true
+  pub before : (k : ℕ) → k < at → p (get_or calls k d) ≡ false
 
-first_at : (p : CallTraffic → Bool) (calls : List CallTraffic) (at : ℕ) (d : CallTraffic) → position p calls ≡ Some at → IsFirst p calls at d
+pub first_at : (p : CallTraffic → Bool) (calls : List CallTraffic) (at : ℕ) (d : CallTraffic) → position p calls ≡ Some at → IsFirst p calls at d
 first_at p calls at d is =
     let facts = position-Some p calls at d is in
     record { within = facts.0; passes = facts.1; before = facts.2 }
 
-behind : (p : CallTraffic → Bool) (call : CallTraffic) (calls : List CallTraffic) (at : ℕ) (d : CallTraffic) → IsFirst p (call ∷ calls) (suc at) d → IsFirst p calls at d
+pub behind : (p : CallTraffic → Bool) (call : CallTraffic) (calls : List CallTraffic) (at : ℕ) (d : CallTraffic) → IsFirst p (call ∷ calls) (suc at) d → IsFirst p calls at d
 behind p call calls at d first = record {
   within = omega (arith, first.within);
   passes = first.passes;

@@ -1,4 +1,9 @@
 pub mod CallLaws
+pub mod EachLaws
+pub mod FirstLaws
+pub mod FollowLaws
 pub mod Further
 pub mod PortLaws
 pub mod Standing
+pub mod Walks
+pub mod WayLaws

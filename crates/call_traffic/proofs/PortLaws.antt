@@ -2,11 +2,12 @@
 use Rattle.std.proofs.Common.{◌≡◌, ℕ, ◌+◌, ◌<◌, true, false, cond, List, [], ◌∷◌, ◌++◌, ◌||◌, All, length, take, get_or, refl, sym, ap, ◌∙◌, subst}
 use Rattle.std.proofs.Math.Dec.{eqb}
 use Rattle.std.proofs.lemmas.Bool.{eq-eqb}
+use Rattle.std.proofs.lemmas.List.{take_more}
 use Rattle.std.proofs.lemmas.List.Elements.{All-more, All-push, All-weaker}
 use Rattle.std.proofs.lemmas.List.Folds.{list_any-append, list_any_at}
 use Rattle.std.proofs.Math.Bool.{or-true}
 use Rattle.call_traffic.specs.declared.relay_port.RelayPort.{RelayPort}
-use Rattle.call_traffic.specs.EndTraffic.{is_among, begun, with_port}
+use Rattle.call_traffic.specs.EndTraffic.{is_among, begun, with_port, with_ports}
 
 abbrev Among : List RelayPort → RelayPort → Type 0
 Among ports port = is_among ports port ≡ true
@@ -48,3 +49,14 @@ next_only fresh ports after i d less is all =
       | true ↦ all
       | false ↦ All-push (Among fresh) ports (begun port) all (in_place fresh i d less)
     ])
+
+with_more : (ports these : List RelayPort) (port : RelayPort) → with_ports ports (these ++ port ∷ []) ≡ with_port (with_ports ports these) port
+with_more ports [] port = refl
+with_more ports (first ∷ these) port = with_more (with_port ports first) these port
+
+pub next_taken : (kept fresh ports after : List RelayPort) (i : ℕ) (d : RelayPort) → i < length fresh → after ≡ with_port ports (get_or fresh i d) →
+    ports ≡ with_ports kept (take i fresh) → after ≡ with_ports kept (take (i + 1) fresh)
+next_taken kept fresh ports after i d less is taken =
+    is ∙ ap (λ ps. with_port ps (get_or fresh i d)) taken
+    ∙ sym (with_more kept (take i fresh) (get_or fresh i d))
+    ∙ ap (with_ports kept) (sym (take_more fresh i d less))

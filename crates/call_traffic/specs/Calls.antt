@@ -1,5 +1,5 @@
 -- The traffic of a call, and when a call is silent.
-use Rattle.std.specs.Prelude.{◌≡◌, ℕ, ◌+◌, ◌-◌, ◌%◌, ◌^◌, ◌&&◌, ◌==◌, Bool, false, nat_le, List, [], ◌∷◌, ◌++◌, length, remove, if◌then◌else◌, Option, Some, None, IsSomeAnd}
+use Rattle.std.specs.Prelude.{◌≡◌, ℕ, ◌+◌, ◌-◌, ◌%◌, ◌^◌, ◌&&◌, ◌==◌, Bool, false, nat_le, List, [], ◌∷◌, ◌++◌, drop, length, remove, if◌then◌else◌, Option, Some, None, IsSomeAnd}
 use Rattle.status.specs.declared.call.Flow.{Flow}
 use Rattle.status.specs.declared.call as status
 use Rattle.call_media.specs.declared.end.End.{End}
@@ -11,7 +11,7 @@ use Rattle.call_traffic.specs.declared.end_traffic.EndTraffic.{EndTraffic}
 use Rattle.call_traffic.specs.declared.stillness.Stillness.{Stillness}
 use Rattle.call_traffic.specs.EndTraffic.{recent, total, total_with_rtcp}
 use Rattle.call_traffic.specs.Limits.{max_calls}
-use Rattle.call_traffic.specs.Looks.{Look}
+use Rattle.call_traffic.specs.Looks.{Look, after_look}
 use Rattle.call_traffic.specs.Stillness.{IsStillnessOf}
 
 -- what came from an end
@@ -56,6 +56,17 @@ has_number number call = call.number == number
 
 abbrev pub number_of : CallTraffic → ℕ
 number_of call = call.number
+
+-- A second has passed: a further look at the call.
+pub record IsSeen (now : ℕ) (before after : CallTraffic) : Type 0 where
+  pub looks : (looks : List Look) → CallLooks looks before → CallLooks (after_look looks now (all_with_rtcp before)) after
+  pub caller : after.from_caller.recent.counts ≡ drop 1 before.from_caller.recent.counts ++ total before.from_caller ∷ []
+  pub callee : after.from_callee.recent.counts ≡ drop 1 before.from_callee.recent.counts ++ total before.from_callee ∷ []
+  pub others : after ≡ record before {
+    from_caller = record before.from_caller { recent = after.from_caller.recent };
+    from_callee = record before.from_callee { recent = after.from_callee.recent };
+    stillness = after.stillness;
+  }
 
 -- ---- the live calls
 

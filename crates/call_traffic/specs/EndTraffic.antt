@@ -1,7 +1,6 @@
 -- What came from an end of a call, as of the last reading of its ports' counts.
-use Rattle.std.specs.Prelude.{ℕ, ◌+◌, ◌-◌, ◌%◌, ◌^◌, ◌==◌, Bool, List, [], ◌∷◌, ◌++◌, slice_get, slice_index, slice_set, if◌then◌else◌}
+use Rattle.std.specs.Prelude.{◌≡◌, ℕ, ◌+◌, ◌-◌, ◌%◌, ◌^◌, ◌==◌, Bool, List, [], ◌∷◌, ◌++◌, filter, slice_index, if◌then◌else◌}
 use Rattle.std.specs.List.{list_any}
-use Rattle.std.specs.Option.{option_map_or}
 use Rattle.call_traffic.specs.declared.end_traffic.EndTraffic.{EndTraffic}
 use Rattle.call_traffic.specs.declared.relay_port.RelayPort.{RelayPort}
 use Rattle.call_traffic.specs.RelayPorts.{rtp_at, rtcp_at}
@@ -29,7 +28,17 @@ begun port = record port { before = port.rtp }
 abbrev pub with_port : List RelayPort → RelayPort → List RelayPort
 with_port ports port = if is_among ports port then ports else ports ++ begun port ∷ []
 
--- a reading of the port at a place, if there is one
-abbrev pub with_reading : ℕ → ℕ → ℕ → List RelayPort → List RelayPort
-with_reading at rtp rtcp ports =
-    option_map_or (λ port. slice_set ports at (record port { rtp = rtp; rtcp = rtcp })) (slice_get ports at) ports
+-- each of these ports in turn
+abbrev pub with_ports : List RelayPort → List RelayPort → List RelayPort
+with_ports ports [] = ports
+with_ports ports (port ∷ others) = with_ports (with_port ports port) others
+
+-- the ports that an end has once it has got these, and left all others
+abbrev pub after_taking : List RelayPort → List RelayPort → List RelayPort
+after_taking these ports = with_ports (filter (is_among these) ports) these
+
+-- the ports may be others, and what came at those that were left still counts
+pub record HasOtherPorts (before after : EndTraffic) : Type 0 where
+  pub kept : total after ≡ total before
+  pub recent : after.recent ≡ before.recent
+  pub way : after.way ≡ before.way

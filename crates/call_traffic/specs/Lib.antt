@@ -1,9 +1,14 @@
 pub mod Calls
 pub mod EndTraffic
 pub mod Facing
+pub mod Following
 pub mod Limits
 pub mod Looks
+pub mod MediaLogs
+pub mod Reading
+pub mod Readings
 pub mod RelayPorts
+pub mod SilentWays
 pub mod Sources
 pub mod Stillness
 pub mod Totals

@@ -2,12 +2,14 @@
 
 ghost use Rattle.std.specs.Prelude.{◌≡◌, ◌≤◌, ◌||◌, List, All, IfSome, OnOk, OnErr, IsTrue, is_some, Some, None, true, [], ◌∷◌, ◌++◌, drop};
 ghost use Rattle.call_traffic.specs.Calls.{CallLooks, all_with_rtcp, carried, is_silent, traffic, traffic_from, with_way};
-ghost use Rattle.call_traffic.specs.EndTraffic.{is_among, total};
+ghost use Rattle.call_traffic.specs.EndTraffic.{HasOtherPorts, after_taking, is_among, total};
 ghost use Rattle.call_traffic.specs.Looks.{Look, after_look, MomentsRise};
+ghost use Rattle.call_traffic.specs.Readings.{IsCallRead, call_readings};
 ghost use Rattle.call_traffic.specs.Stillness.{IsStill, IsStillnessOf};
 ghost use Rattle.call_traffic.specs.Ways.{IsSilent, looks_since};
 
 use crate::end_traffic::EndTraffic;
+use crate::port_counter::PortCounter;
 use crate::relay_port::RelayPort;
 use crate::sources::Sources;
 use crate::stillness::Stillness;
@@ -24,12 +26,12 @@ pub struct CarriedMedia {
 
 /// The traffic of a call, as of the last reading of its ports' counts.
 #[derive(Drop)]
-pub struct CallTraffic {
+pub(crate) struct CallTraffic {
     pub(crate) number: u64,
     /// In milliseconds since the server's start.
     pub(crate) begun: u64,
-    pub from_caller: EndTraffic,
-    pub from_callee: EndTraffic,
+    pub(crate) from_caller: EndTraffic,
+    pub(crate) from_callee: EndTraffic,
     /// For how long nothing came from either end. None before the answer, or if memory was refused.
     pub(crate) stillness: Option<Stillness>,
     /// When it may next be reported that the call is silent.
@@ -37,7 +39,7 @@ pub struct CallTraffic {
 }
 
 impl CallTraffic {
-    /// A call that begins at this moment, without ports. Takes no memory.
+    /// A call that begins at this moment, without ports.
     pub(crate) fn new(alloc: Global, number: u64, now: u64) -> CallTraffic
         ensures number { result.number ≡ number }
         ensures begun { result.begun ≡ now }
@@ -64,9 +66,18 @@ impl CallTraffic {
         self.from_caller.total_with_rtcp().wrapping_add(callee)
     }
 
+    /// Reads the counts of its ports.
+    pub(crate) fn read<C: PortCounter>(&mut self, counter: &mut C)
+        ensures call { IsCallRead self.old self.new }
+        ensures told { C.readings counter.new ≡ C.readings counter.old ++ call_readings self.new }
+    {
+        self.from_caller.read(counter);
+        self.from_callee.read(counter);
+    }
+
     /// These ports face each end from now on, and no others: what came there up to this reading doesn't count. If
     /// memory is refused, some are left out, and the call is no longer silent.
-    pub fn take_ports(
+    pub(crate) fn take_ports(
         &mut self,
         caller: &[RelayPort],
         callee: &[RelayPort],
@@ -75,8 +86,10 @@ impl CallTraffic {
         ensures callee { OnOk result (All (λ p. is_among self.new.from_callee.ports.items p ≡ true) callee.now) }
         ensures only_caller { OnOk result (All (λ p. is_among caller.now p ≡ true) self.new.from_caller.ports.items) }
         ensures only_callee { OnOk result (All (λ p. is_among callee.now p ≡ true) self.new.from_callee.ports.items) }
-        ensures from_caller { total self.new.from_caller ≡ total self.old.from_caller }
-        ensures from_callee { total self.new.from_callee ≡ total self.old.from_callee }
+        ensures caller_ports { OnOk result (self.new.from_caller.ports.items ≡ after_taking caller.now self.old.from_caller.ports.items) }
+        ensures callee_ports { OnOk result (self.new.from_callee.ports.items ≡ after_taking callee.now self.old.from_callee.ports.items) }
+        ensures from_caller { HasOtherPorts self.old.from_caller self.new.from_caller }
+        ensures from_callee { HasOtherPorts self.old.from_callee self.new.from_callee }
         ensures stillness { OnOk result (self.new.stillness ≡ self.old.stillness) }
         ensures err { OnErr result (self.new.stillness ≡ None) }
         ensures others { self.new ≡ record self.old { from_caller = self.new.from_caller; from_callee = self.new.from_callee; stillness = self.new.stillness } }
@@ -89,16 +102,16 @@ impl CallTraffic {
         Ok(())
     }
 
-    /// Memory was refused, so some of its ports are not counted: the call is no longer silent. Takes no memory.
-    pub fn miss_ports(&mut self)
+    /// Memory was refused, so some of its ports are not counted: the call is no longer silent.
+    pub(crate) fn miss_ports(&mut self)
         ensures { self.new ≡ record self.old { stillness = None } }
     {
         self.stillness = None;
     }
 
     /// The call was answered, or answered again: RTP should come from these sources from now on, and the call has
-    /// been still since now. Takes no memory.
-    pub fn expect(&mut self, sources: Sources, now: u64)
+    /// been still since now.
+    pub(crate) fn expect(&mut self, sources: Sources, now: u64)
         ensures caller { self.new.from_caller.way.source ≡ sources.caller }
         ensures callee { self.new.from_callee.way.source ≡ sources.callee }
         ensures caller_looks { IsStillnessOf (after_look [] now self.old.from_caller.way.stillness.count)
@@ -119,8 +132,8 @@ impl CallTraffic {
         self.stillness = Some(Stillness::new(now, self.all_with_rtcp()));
     }
 
-    /// A second has passed. Takes no memory.
-    pub fn look(&mut self, now: u64)
+    /// A second has passed.
+    pub(crate) fn look(&mut self, now: u64)
         ensures looks { (looks : List Look) → CallLooks looks self.old →
             CallLooks (after_look looks now (all_with_rtcp self.old)) self.new }
         ensures caller { self.new.from_caller.recent.counts
@@ -142,8 +155,8 @@ impl CallTraffic {
     }
 
     /// Whether neither RTP nor RTCP came from either end for `limit` milliseconds, by the looks since the call was
-    /// answered last, and that may be reported. Takes no memory.
-    pub fn is_silent(&self, now: u64, limit: u64) -> bool
+    /// answered last, and that may be reported.
+    pub(crate) fn is_silent(&self, now: u64, limit: u64) -> bool
         ensures exact { result ≡ is_silent now limit self.now }
         ensures may { IsTrue result → self.now.next_telling ≤ now }
         ensures silent { (looks : List Look) → CallLooks looks self.now → IsTrue result → IsStill looks now limit }
@@ -157,8 +170,8 @@ impl CallTraffic {
     }
 
     /// A second has passed: where RTP should come from at this end, if none came for ten seconds and that was not
-    /// reported. Takes no memory.
-    pub fn silent_source(&mut self, end: End, now: u64) -> Option<Addr>
+    /// reported.
+    pub(crate) fn silent_source(&mut self, end: End, now: u64) -> Option<Addr>
         ensures looks { (looks : List Look) → let was = traffic_from end self.old in IsStillnessOf looks was.way.stillness →
             IsStillnessOf (looks_since was.way.source looks now (total was)) (traffic_from end self.new).way.stillness }
         ensures silent { (looks : List Look) → let was = traffic_from end self.old in IsStillnessOf looks was.way.stillness →
@@ -177,14 +190,7 @@ impl CallTraffic {
         }
     }
 
-    /// The number, which names the call. Takes no memory.
-    pub fn number(&self) -> u64
-        ensures { result ≡ self.now.number }
-    {
-        self.number
-    }
-
-    /// What `call-ended` says of the media. Takes no memory.
+    /// What `call-ended` says of the media.
     pub(crate) fn carried(&self) -> CarriedMedia
         ensures { result ≡ carried self.now }
     {
@@ -194,8 +200,8 @@ impl CallTraffic {
         }
     }
 
-    /// What the page shows of the traffic. Takes no memory.
-    pub fn traffic(&self) -> status::CallTraffic
+    /// What the page shows of the traffic.
+    pub(crate) fn traffic(&self) -> status::CallTraffic
         ensures { result ≡ traffic self.now }
     {
         status::CallTraffic {

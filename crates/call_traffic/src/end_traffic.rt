@@ -1,11 +1,13 @@
 //! What came from an end of a call.
 
-ghost use Rattle.std.specs.Prelude.{◌≡◌, ◌||◌, List, [], ◌∷◌, ◌++◌, filter, drop, All, OnOk, OnErr, IfSome, Some, None, is_some, length, option_map, slice_get, true};
-ghost use Rattle.call_traffic.specs.EndTraffic.{is_among, recent, total, total_with_rtcp, with_port, with_reading};
+ghost use Rattle.std.specs.Prelude.{◌≡◌, ◌||◌, List, [], ◌∷◌, ◌++◌, filter, drop, All, OnOk, OnErr, IfSome, Some, None, is_some, true};
+ghost use Rattle.call_traffic.specs.EndTraffic.{after_taking, is_among, recent, total, total_with_rtcp, with_port};
 ghost use Rattle.call_traffic.specs.Looks.{Look, after_look, MomentsRise};
+ghost use Rattle.call_traffic.specs.Readings.{IsEndRead, port_readings};
 ghost use Rattle.call_traffic.specs.Stillness.{IsStillnessOf};
 ghost use Rattle.call_traffic.specs.Ways.{IsSilent, looks_since};
 
+use crate::port_counter::PortCounter;
 use crate::recent::RecentCounts;
 use crate::relay_port::{RelayPort, rtcp_at, rtp_at};
 use crate::way::Way;
@@ -15,7 +17,7 @@ use std::alloc::{AllocError, Global};
 
 /// What came from an end of a call, as of the last reading of its ports' counts.
 #[derive(Drop)]
-pub struct EndTraffic {
+pub(crate) struct EndTraffic {
     /// The ports that face the end.
     pub(crate) ports: Vec<RelayPort>,
     /// How many RTP datagrams came at ports that the call no longer has.
@@ -31,7 +33,7 @@ fn is_among(ports: &[RelayPort], port: &RelayPort) -> bool
 }
 
 impl EndTraffic {
-    /// An end without ports. Takes no memory.
+    /// An end without ports.
     pub(crate) fn new(alloc: Global) -> EndTraffic
         ensures ports { result.ports.items ≡ [] }
         ensures total { total result ≡ 0 }
@@ -45,43 +47,18 @@ impl EndTraffic {
         }
     }
 
-    /// How many ports face the end. Takes no memory.
-    pub fn port_count(&self) -> usize
-        ensures { result ≡ length self.now.ports.items }
+    /// Reads the counts of its ports.
+    pub(crate) fn read<C: PortCounter>(&mut self, counter: &mut C)
+        ensures end { IsEndRead self.old self.new }
+        ensures told { C.readings counter.new ≡ C.readings counter.old ++ port_readings self.new.ports.items }
     {
-        self.ports.len()
-    }
-
-    /// The even port at a place among those that face the end. Takes no memory.
-    pub fn port_at(&self, at: usize) -> Option<u16>
-        ensures { result ≡ option_map (λ port. port.number) (slice_get self.now.ports.items at) }
-    {
-        if at < self.ports.len() {
-            Some(self.ports[at].number)
-        } else {
-            None
+        for port in self.ports.iter_mut() {
+            port.read(counter);
         }
     }
 
-    /// A reading of the port at a place, if there is one: `rtp` RTP datagrams had come there since the server's
-    /// start, and `rtcp` of RTCP at the port above. Takes no memory.
-    pub fn read(&mut self, at: usize, rtp: u64, rtcp: u64)
-        ensures ports { self.new.ports.items ≡ with_reading at rtp rtcp self.old.ports.items }
-        ensures others { self.new ≡ record self.old { ports = self.new.ports } }
-    {
-        if at < self.ports.len() {
-            let RelayPort { number, before, .. } = self.ports[at];
-            self.ports[at] = RelayPort {
-                number,
-                before,
-                rtp,
-                rtcp,
-            };
-        }
-    }
-
-    /// How many RTP datagrams came since the call got its ports. Takes no memory.
-    pub fn total(&self) -> u64
+    /// How many RTP datagrams came since the call got its ports.
+    pub(crate) fn total(&self) -> u64
         ensures { result ≡ total self.now }
     {
         self.past.wrapping_add(rtp_at(&self.ports))
@@ -103,7 +80,7 @@ impl EndTraffic {
         self.recent.look(total);
     }
 
-    /// How many RTP datagrams came since the call got its ports, and in the last ten seconds. Takes no memory.
+    /// How many RTP datagrams came since the call got its ports, and in the last ten seconds.
     pub(crate) fn count(&self) -> Flow
         ensures total { result.total ≡ total self.now }
         ensures recent { result.recent ≡ recent self.now }
@@ -151,6 +128,7 @@ impl EndTraffic {
     pub(crate) fn take_ports(&mut self, ports: &[RelayPort]) -> Result<(), AllocError>
         ensures faces { OnOk result (All (λ p. is_among self.new.ports.items p ≡ true) ports.now) }
         ensures only { All (λ p. is_among ports.now p ≡ true) self.new.ports.items }
+        ensures ports { OnOk result (self.new.ports.items ≡ after_taking ports.now self.old.ports.items) }
         ensures total { total self.new ≡ total self.old }
         ensures recent { self.new.recent ≡ self.old.recent }
         ensures way { self.new.way ≡ self.old.way }

@@ -1,8 +1,13 @@
 //! Which ports of the relay face which end of a call.
 
 ghost use Rattle.std.specs.Prelude.{◌≡◌, [], ◌∷◌, ◌++◌, IfOk, OnOk};
+ghost use Rattle.std.specs.List.{AllZip};
 ghost use Rattle.call_traffic.specs.Facing.{port_facing, ports_facing, ports_of, ports_of_session};
+ghost use Rattle.call_traffic.specs.Readings.{port_readings};
+ghost use Rattle.call_traffic.specs.RelayPorts.{IsJustGot};
 
+use crate::port_counter::PortCounter;
+use crate::relay_port::RelayPort;
 use call_core::Call;
 use call_media::{End, Seat, Session, seats_in_use};
 use std::alloc::{AllocError, Global};
@@ -65,7 +70,7 @@ fn push_of_session(
 
 /// The even ports of the relay to which this end of the call sends RTP, those of an open offer first. A port may
 /// occur twice.
-pub fn ports_of(alloc: Global, end: End, call: &Call) -> Result<Vec<u16>, AllocError>
+fn ports_of(alloc: Global, end: End, call: &Call) -> Result<Vec<u16>, AllocError>
     ensures { IfOk result (λ ports. ports.items ≡ ports_of end call.now) }
 {
     let mut ports = Vec::new(alloc);
@@ -74,6 +79,24 @@ pub fn ports_of(alloc: Global, end: End, call: &Call) -> Result<Vec<u16>, AllocE
     }
     if let Some(session) = call.session() {
         push_of_session(&mut ports, alloc, end, session)?;
+    }
+    Ok(ports)
+}
+
+/// The ports to which this end of the call sends, as it gets them now.
+pub(crate) fn ports_by_now<C: PortCounter>(
+    alloc: Global,
+    counter: &mut C,
+    end: End,
+    call: &Call,
+) -> Result<Vec<RelayPort>, AllocError>
+    ensures ports { IfOk result (λ ports. AllZip IsJustGot (ports_of end call.now) ports.items) }
+    ensures told { IfOk result (λ ports. C.readings counter.new ≡ C.readings counter.old ++ port_readings ports.items) }
+{
+    let numbers = ports_of(alloc, end, call)?;
+    let mut ports = Vec::with_capacity(alloc, numbers.len())?;
+    for number in &numbers {
+        ports.push(RelayPort::first(*number, counter))?;
     }
     Ok(ports)
 }

@@ -10,9 +10,9 @@ use sip_uri::Addr;
 
 /// Where the RTP of each end should come from, if any should.
 #[derive(Clone, Copy)]
-pub struct Sources {
-    pub caller: Option<Addr>,
-    pub callee: Option<Addr>,
+pub(crate) struct Sources {
+    pub(crate) caller: Option<Addr>,
+    pub(crate) callee: Option<Addr>,
 }
 
 /// Where the RTP of a medium should come from, given how each end describes the medium. It is the first end's own
@@ -63,7 +63,7 @@ fn source_in(own: &Description<'_>, other: &Description<'_>) -> Option<Addr>
 
 /// Where the RTP of each end should come from, while this session lasts: from a medium that is held, none should.
 /// Takes no memory.
-pub fn sources_of(session: &Session) -> Sources
+pub(crate) fn sources_of(session: &Session) -> Sources
     ensures { result ≡ sources_of session.now }
 {
     let (offer, answer) = (session.offer_taken.get(), session.answer_taken.get());

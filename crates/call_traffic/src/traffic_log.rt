@@ -23,9 +23,9 @@ const MINUTE: u64 = 60_000;
 
 /// The traffic of the live calls, in the order in which they began, and of those that are over.
 #[derive(Drop)]
-pub struct TrafficLog {
-    alloc: Global,
-    pub calls: Vec<CallTraffic>,
+pub(crate) struct TrafficLog {
+    pub(crate) alloc: Global,
+    pub(crate) calls: Vec<CallTraffic>,
     /// How many RTP datagrams came in calls that are over.
     pub(crate) past: DatagramCounts,
     pub(crate) next_look: u64,
@@ -52,7 +52,7 @@ fn add(others: DatagramCounts, call: &CallTraffic) -> DatagramCounts
 }
 
 /// The place of the call of this number.
-fn place_of(calls: &[CallTraffic], number: u64) -> Option<usize>
+pub(crate) fn place_of(calls: &[CallTraffic], number: u64) -> Option<usize>
     ensures { result ≡ position (has_number number) calls.now }
 {
     calls.iter().position(|call| has_number(call, number))
@@ -66,8 +66,8 @@ fn place_of_silent(calls: &[CallTraffic], now: u64, limit: u64) -> Option<usize>
 }
 
 impl TrafficLog {
-    /// A log in which no call began yet. Takes no memory.
-    pub fn new(alloc: Global) -> TrafficLog
+    /// A log in which no call began yet.
+    pub(crate) fn new(alloc: Global) -> TrafficLog
         ensures calls { result.calls.items ≡ [] }
         ensures past { result.past ≡ record { from_callers = 0; from_callees = 0 } }
         ensures next_look { result.next_look ≡ 0 }
@@ -83,8 +83,8 @@ impl TrafficLog {
         }
     }
 
-    /// How many RTP datagrams came in all calls since the server's start. Takes no memory.
-    pub fn datagrams(&self) -> DatagramCounts
+    /// How many RTP datagrams came in all calls since the server's start.
+    pub(crate) fn datagrams(&self) -> DatagramCounts
         ensures { result ≡ datagrams self.now.past self.now.calls.items }
     {
         let mut standing = DatagramCounts {
@@ -126,7 +126,7 @@ impl TrafficLog {
 
     /// A call begins at this moment, without ports. If there are too many, the earliest is forgotten, even if an
     /// error follows.
-    pub fn begin(&mut self, number: u64, now: u64) -> Result<(), AllocError>
+    pub(crate) fn begin(&mut self, number: u64, now: u64) -> Result<(), AllocError>
         ensures ok { OnOk result (IsBegun number now self.old.calls.items self.new.calls.items) }
         ensures err { OnErr result (self.new.calls.items ≡ with_room self.old.calls.items) }
         ensures datagrams { datagrams self.new.past self.new.calls.items ≡ datagrams self.old.past self.old.calls.items }
@@ -139,7 +139,7 @@ impl TrafficLog {
 
     /// The call of this number is over: returns what `call-ended` says of its media. None if it isn't known. Takes no
     /// memory.
-    pub fn end(&mut self, number: u64) -> Option<CarriedMedia>
+    pub(crate) fn end(&mut self, number: u64) -> Option<CarriedMedia>
         ensures carried { result ≡ option_map carried (find (has_number number) self.old.calls.items) }
         ensures calls { self.new.calls.items ≡ without_first (has_number number) self.old.calls.items }
         ensures datagrams { datagrams self.new.past self.new.calls.items ≡ datagrams self.old.past self.old.calls.items }
@@ -151,8 +151,8 @@ impl TrafficLog {
     }
 
     /// The number of the first answered call in which neither RTP nor RTCP came from either end for `minutes`
-    /// minutes, by the looks at it, if one may be reported. It is not reported again for a minute. Takes no memory.
-    pub fn silent_call(&mut self, now: u64, minutes: u32) -> Option<u64>
+    /// minutes, by the looks at it, if one may be reported. It is not reported again for a minute.
+    pub(crate) fn silent_call(&mut self, now: u64, minutes: u32) -> Option<u64>
         ensures silent { result ≡ option_map number_of (find (is_silent now (minutes * minute)) self.old.calls.items) }
         ensures told { self.new.calls.items ≡ with_first_told (is_silent now (minutes * minute)) (min (now + minute) (2 ^ 64 - 1)) self.old.calls.items }
         ensures others { self.new ≡ record self.old { calls = self.new.calls } }
@@ -163,8 +163,8 @@ impl TrafficLog {
         Some(number)
     }
 
-    /// Whether it is time to look at the calls. After that it is not time again for a second. Takes no memory.
-    pub fn is_due(&mut self, now: u64) -> bool
+    /// Whether it is time to look at the calls. After that it is not time again for a second.
+    pub(crate) fn is_due(&mut self, now: u64) -> bool
         ensures due { IsTrue result ↔ self.old.next_look ≤ now }
         ensures next { self.new.next_look ≡ (if result then min (now + second) (2 ^ 64 - 1) else self.old.next_look) }
         ensures others { self.new ≡ record self.old { next_look = self.new.next_look } }
