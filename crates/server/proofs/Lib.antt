@@ -3,4 +3,3 @@ pub mod WordLaws
 pub mod ReplayLaws
 pub mod StreamLaws
 pub mod StateLaws
-pub mod LineLaws

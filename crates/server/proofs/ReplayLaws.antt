@@ -21,8 +21,13 @@ use Rattle.server.specs.declared.fault.Fault.TheVariants.{Input, Script, Config 
 use Rattle.server.specs.Faults.{config_fault}
 use Rattle.server.specs.Leaves.{Leaves, IsOfConfig, IsOfOffice, IsOfReading, IsOfScript}
 use Rattle.server.specs.Replay.{after_all, run_text, sends_of, text_of, Day, EventLeaves, IsNote, IsNotedRun, IsOffice, IsRun, IsScript, Replays, ReplayLeaves, RunLeaves, TellsIf, WritesDay, WritesEvent, WritesRun}
-use Rattle.server.specs.Lines.{IsSaid, Tells}
+use Rattle.note_lines.specs.Lines.{IsSaid, Tells}
+use Rattle.events.specs.declared.event.What.{What}
+use Rattle.note_lines.specs.declared.ledger.Entry.{Entry}
+use Rattle.note_lines.specs.Lines.{said}
+use Rattle.note_lines.specs.NoteLines.{Noted, note_line}
 use Rattle.server.specs.State.{state_text}
+use Rattle.server.specs.Told.{note_text, noted_of}
 use Rattle.server.proofs.InputLaws.{appends_kept, appends_more, appends_nothing, keeps_same}
 
 -- ---- offices
@@ -69,6 +74,18 @@ after_more agent [] e = refl
 after_more agent (x ∷ es) e = after_more (after agent x) es e
 
 -- ---- what is logged
+
+pub not_noted : (notes : Bool) (text : List ℕ) (ledger : List Entry) (agent : Contents) (what : What) → notes ≡ false
+    → text ≡ text ++ note_text notes ledger agent what
+not_noted true text ledger agent what h = absurd cc
+not_noted false text ledger agent what h = sym (append-nil text)
+
+pub noted_so : (r : Result (Unit {0}) AllocError) (notes : Bool) (before behind : List ℕ) (ledger : List Entry) (agent : Contents) (what : What) (e : Noted)
+    → notes ≡ true → e ≡ noted_of agent what → OnOk r (behind ≡ before ++ said (note_line ledger e))
+    → OnOk r (behind ≡ before ++ note_text notes ledger agent what)
+noted_so (Err e) notes before behind ledger agent what noted h k is = tt
+noted_so (Ok done) true before behind ledger agent what noted h k is = is ∙ ap (λ n. before ++ said (note_line ledger n)) k
+noted_so (Ok done) false before behind ledger agent what noted h k is = absurd cc
 
 pub not_told : (notes : Bool) (text : List ℕ) → notes ≡ false → TellsIf notes text text
 not_told true text h = absurd cc

@@ -3,9 +3,7 @@ pub mod Texts
 pub mod Leaves
 pub mod Once
 pub mod State
-pub mod Lines
-pub mod Notes
-pub mod Holds
+pub mod Told
 pub mod Replay
 pub mod Stream
 pub mod Serve

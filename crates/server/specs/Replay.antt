@@ -13,7 +13,7 @@ use Rattle.scripts.specs.Writing.{sent_text}
 use Rattle.event_rows.specs.Rows.{after, row}
 use Rattle.event_rows.specs.State.{Contents, IsNew}
 use Rattle.server.specs.State.{state_text}
-use Rattle.server.specs.Lines.{IsSaid}
+use Rattle.note_lines.specs.Lines.{IsSaid}
 use Rattle.server.specs.Texts.{HasText}
 use Rattle.server.specs.Leaves.{IsMalformed, IsWrongFile}
 use Rattle.server.specs.declared.fault.Fault.{Fault}

@@ -1,25 +1,26 @@
 //! `replay`: the events of a script, which an office takes one after the other, starting with nothing having
 //! happened.
 
-ghost use Rattle.std.specs.Prelude.{◌≡◌, None, Some, IfErr, IfOk, OnOk, option_map};
+ghost use Rattle.std.specs.Prelude.{◌≡◌, ◌++◌, None, Some, IfErr, IfOk, OnOk, option_map};
 ghost use Rattle.std.specs.Io.KnownBytes.{Appends};
 ghost use Rattle.configuration.specs.Rules.{first_broken};
 ghost use Rattle.event_rows.specs.Rows.{after, row};
+ghost use Rattle.note_lines.specs.NoteLines.{noted};
 ghost use Rattle.server.specs.Faults.{unread_config};
 ghost use Rattle.server.specs.Leaves.{IsOfConfig, IsOfOffice, IsOfScript, IsRefusalOf, IsScriptFault};
 ghost use Rattle.server.specs.State.{state_text};
+ghost use Rattle.server.specs.Told.{note_text, noted_of, source_of};
 ghost use Rattle.server.specs.Replay.{after_all, text_of, EventLeaves, IsOffice, IsScript, Replays, ReplayLeaves, RunLeaves, TellsIf, WritesDay, WritesEvent, WritesRun};
 
 use crate::agents::agent_of;
 use crate::fault::Fault;
 use crate::input::read_whole;
-use crate::ledger::Ledger;
-use crate::notes::put_note;
 use crate::output::write_out;
 use crate::state::put_state;
 use agent::Agent;
 use configuration::{Config, ConfigError, example_config, fault_of, read_config};
 use events::{Event, Sent, What};
+use note_lines::{Ledger, NotedEvent, put_note};
 use scripts::{ScriptError, malformed_at, put_sent, read_script};
 use sip_uri::Addr;
 use std::alloc::{AllocError, Global};
@@ -109,15 +110,32 @@ fn text_of(alloc: Global, sent: &[Sent]) -> Result<Vec<u8>, AllocError>
 }
 
 /// Where an event came from; none for a timer, silence or users.
-fn source_of(event: &Event) -> Option<Addr> {
+fn source_of(event: &Event) -> Option<Addr>
+    ensures { result ≡ source_of event.now.what }
+{
     match &event.what {
         What::Datagram { source, .. } => Some(*source),
         What::Due | What::Silent(_) | What::Users(_) => None,
     }
 }
 
+/// The event that the agent took last, as its line needs it. Nobody counts media.
+fn noted<'a>(agent: &'a Agent, event: &Event) -> NotedEvent<'a>
+    ensures { noted result ≡ noted_of agent.now event.now.what }
+{
+    NotedEvent {
+        note: agent.note(),
+        calls: agent.calls(),
+        registrar: agent.registrar(),
+        user: agent.registered_user(),
+        moment: agent.moment(),
+        source: source_of(event),
+        media: None,
+    }
+}
+
 /// Appends what the last event was about, if notes are asked for.
-#[tactic(auto, using(crate::proofs::ReplayLaws::not_told, crate::proofs::ReplayLaws::told))]
+#[tactic(auto, using(crate::proofs::ReplayLaws::not_told, crate::proofs::ReplayLaws::told, crate::proofs::ReplayLaws::not_noted, crate::proofs::ReplayLaws::noted_so))]
 fn put_told(
     out: &mut Vec<u8>,
     alloc: Global,
@@ -126,12 +144,13 @@ fn put_told(
     agent: &Agent,
     event: &Event,
 ) -> Result<(), AllocError>
-    ensures { OnOk result (TellsIf notes out.old.items out.new.items) }
+    ensures tells { OnOk result (TellsIf notes out.old.items out.new.items) }
+    ensures line { OnOk result (out.new.items ≡ out.old.items ++ note_text notes ledger.old agent.now event.now.what) }
 {
     if !notes {
         return Ok(());
     }
-    put_note(out, alloc, ledger, agent, source_of(event), None)
+    put_note(out, alloc, ledger, noted(agent, event))
 }
 
 /// Takes an event, and writes the text of what is sent. If notes are asked for, writes what it was about as well.

@@ -4,18 +4,12 @@
 #![tactic(auto)]
 
 mod agents;
-mod call_notes;
 mod command_line;
 mod day;
 mod ending;
 mod fault;
-mod holds;
 mod host;
 mod input;
-mod ledger;
-mod lines;
-mod media_counts;
-mod notes;
 mod output;
 mod reason;
 mod service;
@@ -33,9 +27,6 @@ pub use ending::Ending;
 pub use fault::Fault;
 pub use host::{Host, HostFault};
 pub use input::read_datagram;
-pub use ledger::Ledger;
-pub use media_counts::MediaCounts;
-pub use notes::{put_count, put_note, put_silent_way};
 pub use reason::Reason;
 pub use service::serve;
 pub use shelf::Shelf;

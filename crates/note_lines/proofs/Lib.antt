@@ -1,0 +1,3 @@
+pub mod BeginLaws
+pub mod LineLaws
+pub mod NoteLaws

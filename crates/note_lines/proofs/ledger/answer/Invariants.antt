@@ -1,0 +1,7 @@
+use Rattle.std.proofs.Common.{◌≡◌, ◌++◌, map, take, drop}
+use Rattle.note_lines.specs.Ledger.{answer_entry}
+use Rattle.note_lines.proofs.ledger.answer.Given as goal
+
+-- those so far are as they have to be, the others as they were
+abbrev pub invariant-loop-entry : goal.invariant-loop-entry
+invariant-loop-entry l = l.entries ≡ map (answer_entry l.number l.now) (take l.entry-index l.initial.entries) ++ drop l.entry-index l.initial.entries

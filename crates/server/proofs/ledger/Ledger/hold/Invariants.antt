@@ -1,6 +1,0 @@
-use Rattle.std.proofs.Common.{◌≡◌, length}
-use Rattle.server.proofs.ledger.Ledger.hold.Given as goal
-
--- no call comes or goes
-abbrev pub invariant-loop-at : goal.invariant-loop-at
-invariant-loop-at l = l.at-end ≡ length l.self.entries.items
