@@ -1,9 +1,9 @@
 -- Lines that are passed on, and those that are lost.
-use Rattle.std.proofs.Common.{◌≡◌, ◌+◌, ◌<◌, ◌++◌, ℕ, List, length, min, refl, ap, ◌∙◌, inl, inr}
+use Rattle.std.proofs.Common.{◌≡◌, ◌+◌, ◌<◌, ◌++◌, ℕ, List, length, min, ap, ◌∙◌, inl, inr}
 use Rattle.rtrb.specs.Ring.{known_free, sent}
 use Rattle.log_pipe.specs.declared.log_lines.LogLines.{LogLines}
 use Rattle.log_pipe.specs.Limits.{max_count}
-use Rattle.log_pipe.specs.Losses.{Passes, PassesOn, Loses, TellsLost, line_count, lost_line}
+use Rattle.log_pipe.specs.Losses.{PassesOn, TellsLost, line_count, lost_line}
 
 -- the lost ones are told
 pub told : (before after : LogLines) (line : List ℕ) → 0 < before.lost → line ≡ lost_line before.lost → after.lost ≡ 0

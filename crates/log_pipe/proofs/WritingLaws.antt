@@ -1,5 +1,5 @@
 -- What is written of the lines that were taken.
-use Rattle.std.proofs.Common.{◌≡◌, ◌⊎◌, ◌+◌, ◌<◌, ◌≤◌, ◌++◌, ◌∷◌, [], ℕ, List, length, take, refl, sym, subst, ap, ◌∙◌, inl, inr, arith}
+use Rattle.std.proofs.Common.{◌≡◌, ◌<◌, ◌≤◌, ◌++◌, ◌∷◌, [], ℕ, List, length, take, sym, ap, ◌∙◌, inl, inr, arith}
 use mathlib.Core.List.{IsPrefix}
 use Rattle.std.specs.List.{All, concat, flat_map}
 use Rattle.std.proofs.lemmas.List.{append_assoc, append-nil, length-append, length-take}
@@ -7,7 +7,7 @@ use Rattle.std.proofs.lemmas.List.Elements.{All-append, All-cons, All-nil, All-p
 use Rattle.std.proofs.lemmas.List.Folds.{concat-append}
 use Rattle.std.proofs.lemmas.Grind.{flat_map-append}
 use Rattle.rtrb.specs.declared.consumer.Consumer.{Consumer}
-use Rattle.rtrb.specs.Ring.{known_items, received}
+use Rattle.rtrb.specs.Ring.{received}
 use Rattle.sockets.specs.ErrorStreams.{Stream}
 use Rattle.log_pipe.specs.declared.log_writer.LogWriter.{LogWriter}
 use Rattle.log_pipe.specs.Limits.{max_block}
@@ -47,14 +47,14 @@ as_left blocks first ring next s t u so_far same text less = record {
 }
 
 -- what is taken from a ring that isn't empty is some bytes, and no more than a block
-pub is_block : (count : ℕ) (slice known left : List ℕ) → (length known ≡ 0 → ⊥) → IsPrefix known (take count slice ++ left)
-    → (count < length slice → length left ≡ 0) → length slice ≡ max_block → IsBlock (take count slice)
-is_block count slice known left some prefix most full =
+pub is_block : (count size : ℕ) (slice known left : List ℕ) → (length known ≡ 0 → ⊥) → IsPrefix known (take count slice ++ left)
+    → (count < size → length left ≡ 0) → size ≡ max_block → length slice ≡ max_block → IsBlock (take count slice)
+is_block count size slice known left some prefix most room full =
     let whole = ap length prefix.1 in
     let parts = length-append known prefix.0 in
     let both = length-append (take count slice) left in
     let taken = length-take count slice in
-    grind (arith, some, most, full)
+    grind (arith, some, most, room, full)
 
 ends : (after : LogWriter) (between : Stream) → after.stream.patience ≤ between.patience → IsEmptied after.events between → IsEmptied after.sending after.stream → IsDone after
 ends after between less (inl none) (inl no_more) = inl (none, no_more)
