@@ -1,0 +1,9 @@
+pub mod Ends
+pub mod FileLooks
+pub mod Lists
+pub mod Looks
+pub mod News
+pub mod Reports
+pub mod Turns
+pub mod UserDesks
+pub mod Waiting

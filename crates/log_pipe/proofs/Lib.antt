@@ -1,0 +1,2 @@
+pub mod LossLaws
+pub mod WritingLaws

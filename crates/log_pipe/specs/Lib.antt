@@ -1,0 +1,4 @@
+pub mod Ends
+pub mod Limits
+pub mod Losses
+pub mod Writing
