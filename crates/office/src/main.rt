@@ -2,12 +2,6 @@
 //! streams to the library `server`. It serves telephones with the sockets, the clock and the threads of the system.
 #![tactic(auto)]
 
-mod counts;
-mod event_log;
-mod file_thread;
-mod log_lines;
-mod log_writer;
-mod media_log;
 mod opening;
 mod page_thread;
 mod parts;
@@ -15,17 +9,13 @@ mod port_counts;
 mod refusal;
 mod serving;
 mod shared;
-mod snapshot;
 mod telephony;
 mod threads;
-mod troubles;
-mod user_desk;
-mod wire;
 
-use crate::file_thread::{FileEnds, FileThread, file_ends};
 use crate::shared::Shared;
 use crate::telephony::Telephony;
 use host::Disk;
+use live_users::{FileEnds, FileThread, file_ends};
 use server::{Asked, CommandError, Ending, command, run};
 use sockets::LastWords;
 use std::alloc::{AllocError, Global};
@@ -120,7 +110,7 @@ fn main(rt: HostRuntime) -> ExitCode {
         &rt,
         |scope| -> Result<Ending, CommandError> {
             let words = words(runtime)?;
-            if let Some((file, ends)) = file_in(runtime.alloc(), &words)? {
+            if let Some((mut file, ends)) = file_in(runtime.alloc(), &words)? {
                 telephony.file = Some(ends);
                 if scope.spawn(move || file.run(runtime, is_over)).is_err() {
                     return Err(CommandError::OutOfMemory);

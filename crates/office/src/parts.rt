@@ -1,37 +1,20 @@
 //! What a server is made of, before it has a board.
 
-use crate::file_thread::FileEnds;
-use crate::log_lines::LogLines;
-use crate::log_writer::LogWriter;
 use crate::opening::Opened;
 use crate::page_thread::Page;
-use crate::user_desk::UserDesk;
-use crate::wire::SipWire;
 use configuration::Config;
-use host::{Announcement, SystemClock};
+use host::{Announcement, SipWire, SystemClock};
+use live_users::{FileEnds, UserDesk};
+use log_pipe::{LogLines, LogPipe, LogWriter, log_pipe_ends};
+use operator::Desks;
 use page_desk::{StatusDesk, desks};
 use page_server::PageServer;
-use rtrb::RingBuffer;
 use server::{HostFault, VERSION};
-use sockets::{ErrorStream, RelaySockets, Sockets};
+use sockets::{RelaySockets, Sockets};
 use std::alloc::{AllocError, Global};
 use std::io;
 use std::rt::Clock;
 use std::time::Duration;
-
-/// How many bytes of lines wait to be written at most: those of events, and those of the socket for SIP.
-const ROOM_OF_EVENTS: usize = 262_144;
-
-const ROOM_OF_SENDING: usize = 16_384;
-
-/// What the signalling hands on and looks at beside its events.
-#[derive(Drop)]
-pub(crate) struct Desks {
-    /// Where a page is served, if one is.
-    pub(crate) page: Option<StatusDesk>,
-    /// What is known of the configuration's file, if there is a file.
-    pub(crate) users: Option<UserDesk>,
-}
 
 /// What serves beside the board and the socket for SIP.
 #[derive(Drop)]
@@ -63,18 +46,6 @@ fn host_fault(error: io::Error) -> HostFault {
     } else {
         HostFault::Socket
     }
-}
-
-/// The log: the end for the lines of events, that for those of the socket for SIP, and what writes both.
-fn open_log(alloc: Global) -> Result<(LogLines, LogLines, LogWriter), AllocError> {
-    let (events, events_out) = RingBuffer::new(alloc, ROOM_OF_EVENTS)?;
-    let (sending, sending_out) = RingBuffer::new(alloc, ROOM_OF_SENDING)?;
-    let writer = LogWriter::new(alloc, events_out, sending_out, ErrorStream::new())?;
-    Ok((
-        LogLines::new(alloc, events),
-        LogLines::new(alloc, sending),
-        writer,
-    ))
 }
 
 /// The end of the signalling, and what the page's thread has, if there is a page.
@@ -119,7 +90,11 @@ impl<'a, R: Clock + AllocGlobal> Parts<Announcement<'a, R>, SystemClock<'a, R>> 
             sockets: Sockets { sip, relay },
             page: server,
         } = opened;
-        let (lines, sending, writer) = open_log(alloc).map_err(|_| HostFault::OutOfMemory)?;
+        let LogPipe {
+            events: lines,
+            sending,
+            writer,
+        } = log_pipe_ends(alloc).map_err(|_| HostFault::OutOfMemory)?;
         let (status, page) = page_of(alloc, server, start.as_secs()).map_err(
             |_| HostFault::OutOfMemory,
         )?;

@@ -3,17 +3,15 @@
 ghost use Rattle.std.specs.Prelude.{◌≡◌, []};
 ghost use Rattle.live.specs.Turns.{HasTable};
 
-use crate::event_log::EventLog;
-use crate::media_log::MediaLog;
 use crate::parts::{Beside, Parts};
 use crate::port_counts::Counts;
 use crate::threads::{Plan, each_alone, serve_all};
-use crate::troubles::Troubles;
-use crate::wire::SipWire;
 use agent::Tally;
+use call_traffic::MediaLog;
 use configuration::Config;
-use host::Announcer;
+use host::{Announcer, SipWire};
 use live::{Clock as Moments, Signalling};
+use operator::OfficeOperator;
 use relay::{Board, Unopened, Viewer};
 use server::HostFault;
 use sockets::{worker_count, workers_of};
@@ -63,8 +61,8 @@ fn serve_beside<R: Threads + Wait + Sync, A: Announcer + Drop, M: Moments + Drop
     let workers = workers_of(alloc, relay, viewers).map_err(|_| HostFault::OutOfMemory)?;
     let counts = Counts::of_workers(alloc, &workers).map_err(|_| HostFault::OutOfMemory)?;
     let workers = each_alone(alloc, workers).map_err(|_| HostFault::OutOfMemory)?;
-    let log = EventLog::new(alloc, config.log, MediaLog::new(alloc, counts));
-    let mut troubles = Troubles::new(alloc, config, lines, log, desks);
+    let media = MediaLog::new(alloc, counts);
+    let mut operator = OfficeOperator::new(alloc, config, lines, media, desks);
     let plan = Plan {
         announcer,
         writer,
@@ -72,7 +70,7 @@ fn serve_beside<R: Threads + Wait + Sync, A: Announcer + Drop, M: Moments + Drop
         workers,
         turns,
     };
-    let ended = serve_all(rt, plan, signalling, &mut watch, &mut troubles);
+    let ended = serve_all(rt, plan, signalling, &mut watch, &mut operator);
     Ok((signalling.agent.tally(), ended))
 }
 

@@ -1,7 +1,5 @@
 //! An office on sockets.
 
-use crate::counts::counts_line;
-use crate::file_thread::FileEnds;
 use crate::opening::open_all;
 use crate::parts::Parts;
 use crate::refusal::Refusal;
@@ -10,6 +8,8 @@ use crate::shared::Shared;
 use agent::Tally;
 use configuration::Config;
 use host::warning;
+use live_users::FileEnds;
+use operator::tally_line;
 use server::{Host, HostFault};
 use sockets::LastWords;
 use std::alloc::Global;
@@ -35,7 +35,7 @@ pub(crate) struct Telephony<'a, R> {
 
 /// Writes a line that says how events were answered.
 fn report<R: Wait>(last_words: &mut LastWords<'_, R>, alloc: Global, tally: Tally) {
-    if let Ok(line) = counts_line(alloc, tally) {
+    if let Ok(line) = tally_line(alloc, tally) {
         last_words.put(line.as_bytes());
     }
 }

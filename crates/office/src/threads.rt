@@ -2,10 +2,10 @@
 
 ghost use Rattle.live.specs.Turns.{HasTable};
 
-use crate::log_writer::LogWriter;
 use crate::page_thread::{Page, serve_page};
 use host::Announcer;
 use live::{Clock as Moments, End, Operator, Signalling, Wire};
+use log_pipe::LogWriter;
 use relay::{Worker, serve_media};
 use server::HostFault;
 use sockets::MediaSockets;
@@ -111,7 +111,7 @@ pub(crate) fn serve_all<
 {
     let Plan {
         announcer,
-        writer,
+        mut writer,
         page,
         workers,
         turns,

@@ -2,7 +2,7 @@ use Rattle.std.proofs.Common.{rules, ◌≡◌, ap}
 use Rattle.agent.specs.declared.agent.Agent.{Agent}
 use Rattle.live.specs.Reports.{noted}
 use Rattle.live.specs.declared.report.Report.TheVariants.{Noted}
-use Rattle.office.proofs.troubles.TroublesOperator.noted.Goals as goal
+use Rattle.operator.proofs.office_operator.OfficeOperatorOperator.noted.Goals as goal
 
 pub returns-clause-told : goal.returns-clause-told
 returns-clause-told c =

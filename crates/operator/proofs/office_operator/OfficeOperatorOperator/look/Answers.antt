@@ -2,7 +2,7 @@ use Rattle.std.proofs.Common.{rules, ◌≡◌, ap}
 use Rattle.agent.specs.declared.agent.Agent.{Agent}
 use Rattle.live.specs.Reports.{looked}
 use Rattle.live.specs.declared.report.Report.TheVariants.{Looked}
-use Rattle.office.proofs.troubles.TroublesOperator.look.Goals as goal
+use Rattle.operator.proofs.office_operator.OfficeOperatorOperator.look.Goals as goal
 
 pub returns-clause-told : goal.returns-clause-told
 returns-clause-told c =

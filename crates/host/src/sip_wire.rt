@@ -1,10 +1,12 @@
 //! The socket for SIP, as the signalling has it.
 
-ghost use Rattle.std.specs.Prelude.{◌≡◌};
+ghost use Rattle.std.specs.Prelude.{◌≡◌, [], false, true, string_bytes, IfOk};
+ghost use Rattle.configuration.specs.declared.level.LogLevel.TheVariants as levels;
+ghost use Rattle.log_rules.specs.Levels.{is_up_to};
 
-use crate::log_lines::LogLines;
 use configuration::LogLevel;
 use live::{NumberLog, Wire, WireFault};
+use log_pipe::LogLines;
 use log_rules::logs_trouble;
 use sip_uri::Addr;
 use sockets::{Refusal, Refusals, SipSocket};
@@ -14,14 +16,14 @@ use std::io::ErrorKind;
 /// Passes what it is asked on to the socket. If the system refuses to send to an address, a line is logged when that
 /// begins, and another when it ends.
 #[derive(Drop)]
-pub(crate) struct SipWire {
+pub struct SipWire {
     alloc: Global,
     lines: LogLines,
     level: LogLevel,
     refusals: Refusals,
-    pub(crate) socket: SipSocket,
+    pub socket: SipSocket,
     /// The room for each datagram. Only clauses read it.
-    pub(crate) rooms: NumberLog,
+    pub rooms: NumberLog,
 }
 
 /// The line for a refusal that begins.
@@ -40,12 +42,18 @@ fn end_line(alloc: Global, refusal: Refusal) -> Result<String, AllocError> {
 }
 
 impl SipWire {
-    pub(crate) fn new(
+    /// The wire of a socket at which nothing was asked for.
+    pub fn new(
         alloc: Global,
         level: LogLevel,
         lines: LogLines,
         socket: SipSocket,
-    ) -> Result<SipWire, AllocError> {
+    ) -> Result<SipWire, AllocError>
+        ensures socket { IfOk result (λ wire. wire.socket ≡ socket) }
+        ensures rooms { IfOk result (λ wire. wire.rooms.entries ≡ []) }
+        ensures lines { IfOk result (λ wire. wire.lines ≡ lines) }
+        ensures level { IfOk result (λ wire. wire.level ≡ level) }
+    {
         Ok(SipWire {
             alloc,
             lines,

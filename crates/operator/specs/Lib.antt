@@ -1,0 +1,2 @@
+pub mod DueLines
+pub mod EventLines
