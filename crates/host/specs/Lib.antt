@@ -1,2 +1,3 @@
 pub mod Descriptors
+pub mod Refusals
 pub mod Warnings

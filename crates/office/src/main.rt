@@ -5,8 +5,6 @@
 mod opening;
 mod page_thread;
 mod parts;
-mod port_counts;
-mod refusal;
 mod serving;
 mod shared;
 mod telephony;

@@ -1,8 +1,7 @@
 //! What a server opens before it serves.
 
-use crate::refusal::Refusal;
 use configuration::Config;
-use host::lacks_descriptors;
+use host::{Refusal, lacks_descriptors};
 use page_server::PageServer;
 use sockets::{Sockets, Unbound, bind};
 use std::fs::Files;

@@ -3,7 +3,7 @@
 use crate::opening::Opened;
 use crate::page_thread::Page;
 use configuration::Config;
-use host::{Announcement, SipWire, SystemClock};
+use host::{Announcement, SipWire, SystemClock, fault_of};
 use live_users::{FileEnds, UserDesk};
 use log_pipe::{LogLines, LogPipe, LogWriter, log_pipe_ends};
 use operator::Desks;
@@ -12,7 +12,6 @@ use page_server::PageServer;
 use server::{HostFault, VERSION};
 use sockets::{RelaySockets, Sockets};
 use std::alloc::{AllocError, Global};
-use std::io;
 use std::rt::Clock;
 use std::time::Duration;
 
@@ -38,14 +37,6 @@ pub(crate) struct Parts<A, M> {
     pub(crate) start: Duration,
     pub(crate) wire: SipWire,
     pub(crate) beside: Beside<A, M>,
-}
-
-fn host_fault(error: io::Error) -> HostFault {
-    if error.kind() == io::ErrorKind::OutOfMemory {
-        HostFault::OutOfMemory
-    } else {
-        HostFault::Socket
-    }
 }
 
 /// The end of the signalling, and what the page's thread has, if there is a page.
@@ -84,8 +75,8 @@ impl<'a, R: Clock + AllocGlobal> Parts<Announcement<'a, R>, SystemClock<'a, R>> 
         turns: Option<u64>,
     ) -> Result<Parts<Announcement<'a, R>, SystemClock<'a, R>>, HostFault> {
         let alloc = rt.alloc();
-        let watch = SystemClock::new(rt).map_err(host_fault)?;
-        let start = rt.since_1970().map_err(host_fault)?;
+        let watch = SystemClock::new(rt).map_err(|error| fault_of(error.kind()))?;
+        let start = rt.since_1970().map_err(|error| fault_of(error.kind()))?;
         let Opened {
             sockets: Sockets { sip, relay },
             page: server,

@@ -4,12 +4,11 @@ ghost use Rattle.std.specs.Prelude.{◌≡◌, []};
 ghost use Rattle.live.specs.Turns.{HasTable};
 
 use crate::parts::{Beside, Parts};
-use crate::port_counts::Counts;
 use crate::threads::{Plan, each_alone, serve_all};
 use agent::Tally;
 use call_traffic::MediaLog;
 use configuration::Config;
-use host::{Announcer, SipWire};
+use host::{Announcer, SipWire, WorkerCounts};
 use live::{Clock as Moments, Signalling};
 use operator::OfficeOperator;
 use relay::{Board, Unopened, Viewer};
@@ -59,7 +58,7 @@ fn serve_beside<R: Threads + Wait + Sync, A: Announcer + Drop, M: Moments + Drop
         turns,
     } = beside;
     let workers = workers_of(alloc, relay, viewers).map_err(|_| HostFault::OutOfMemory)?;
-    let counts = Counts::of_workers(alloc, &workers).map_err(|_| HostFault::OutOfMemory)?;
+    let counts = WorkerCounts::new(alloc, &workers).map_err(|_| HostFault::OutOfMemory)?;
     let workers = each_alone(alloc, workers).map_err(|_| HostFault::OutOfMemory)?;
     let media = MediaLog::new(alloc, counts);
     let mut operator = OfficeOperator::new(alloc, config, lines, media, desks);

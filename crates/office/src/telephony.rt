@@ -2,12 +2,11 @@
 
 use crate::opening::open_all;
 use crate::parts::Parts;
-use crate::refusal::Refusal;
 use crate::serving::serve_on_board;
 use crate::shared::Shared;
 use agent::Tally;
 use configuration::Config;
-use host::warning;
+use host::{Refusal, warning};
 use live_users::FileEnds;
 use operator::tally_line;
 use server::{Host, HostFault};

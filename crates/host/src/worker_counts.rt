@@ -8,32 +8,32 @@ use std::alloc::{AllocError, Global};
 
 /// How many datagrams of each port were passed on, by all workers.
 #[derive(Drop)]
-pub(crate) struct Counts {
+pub struct WorkerCounts {
     readers: Vec<PortCounts>,
     /// The readings that it gave. Only clauses read them.
     told: ReadingLog,
 }
 
-impl Counts {
+impl WorkerCounts {
     /// The counts of these workers.
-    pub(crate) fn of_workers<S: MediaSocket>(
+    pub fn new<S: MediaSocket>(
         alloc: Global,
         workers: &[Worker<S>],
-    ) -> Result<Counts, AllocError>
+    ) -> Result<WorkerCounts, AllocError>
         ensures { IfOk result (λ counts. counts.told.entries ≡ []) }
     {
         let mut readers = Vec::new(alloc);
         for worker in workers {
             readers.push(worker.counter.reader()?)?;
         }
-        Ok(Counts {
+        Ok(WorkerCounts {
             readers,
             told: ReadingLog::new(),
         })
     }
 }
 
-impl PortCounter for Counts {
+impl PortCounter for WorkerCounts {
     ghost readings = { λ counts. counts.told.entries };
 
     fn number(&mut self, port: u16) -> u64 {
