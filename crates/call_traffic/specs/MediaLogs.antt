@@ -1,5 +1,5 @@
 -- What a log of the live calls' media is after each call of it.
-use Rattle.std.specs.Prelude.{◌≡◌, ◌⊎◌, ℕ, ◌+◌, ◌-◌, ◌*◌, ◌^◌, Bool, true, false, List, [], ◌∷◌, ◌++◌, find, min, Option, Some, None, option_map, MatchOption, if◌then◌else◌}
+use Rattle.std.specs.Prelude.{◌≡◌, ◌⊎◌, ℕ, ◌+◌, ◌-◌, ◌*◌, ◌^◌, Bool, true, false, List, [], ◌∷◌, ◌++◌, find, min, Option, None, option_map, MatchOption, if◌then◌else◌}
 use Rattle.std.specs.List.{AllZip}
 use Rattle.calls.specs.declared.standing_call.StandingCall.{StandingCall}
 use Rattle.call_core.specs.declared.call.Call.{Call}
