@@ -1,5 +1,5 @@
 -- The first call that passes a test becomes another.
-use Rattle.std.proofs.Common.{◌≡◌, ℕ, ◌<◌, Bool, true, false, cond, List, [], ◌∷◌, length, get_or, set, Some, None, find, position, MatchOption, sym, ap, ◌∙◌, subst, arith}
+use Rattle.std.proofs.Common.{◌≡◌, ℕ, Bool, true, false, cond, List, [], ◌∷◌, get_or, set, Some, None, position, MatchOption, sym, ap, ◌∙◌, subst, arith}
 use Prim.Native.Nat.{suc, zero}
 use Rattle.std.specs.Prelude.{Result, Ok, Err, OnErr}
 use Rattle.std.proofs.lemmas.Bool.{cond-true, cond-false}

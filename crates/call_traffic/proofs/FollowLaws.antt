@@ -1,5 +1,5 @@
 -- What happened to a call is followed.
-use Rattle.std.proofs.Common.{◌≡◌, ℕ, List, Option, Some, None, find, MatchOption, sym, subst}
+use Rattle.std.proofs.Common.{◌≡◌, ℕ, List, Option, find, MatchOption, subst}
 use Rattle.calls.specs.declared.standing_call.StandingCall.{StandingCall}
 use Rattle.call_core.specs.declared.note.NoteOfCall.{NoteOfCall}
 use Rattle.call_traffic.specs.declared.traffic_log.TrafficLog.{TrafficLog}

@@ -1,13 +1,13 @@
 //! The media of the live calls.
 
-ghost use Rattle.std.specs.Prelude.{◌≡◌, ◌≤◌, ◌+◌, ◌*◌, ◌^◌, ◌-◌, ◌||◌, ◌++◌, ◌↔◌, [], false, true, find, if◌then◌else◌, map, min, option_map, is_some, IfOk, IsTrue, OnErr, OnOk};
+ghost use Rattle.std.specs.Prelude.{◌≡◌, ◌≤◌, ◌+◌, ◌^◌, ◌-◌, ◌||◌, ◌++◌, ◌↔◌, [], false, true, find, is_some, map, min, IfOk, IsTrue, None, OnErr, OnOk};
 ghost use Rattle.std.specs.List.{AllZip};
 ghost use Rattle.std.specs.Option.{option_copied};
-ghost use Rattle.call_traffic.specs.Calls.{IsSeen, has_number, is_silent, number_of, traffic, with_first_told};
-ghost use Rattle.call_traffic.specs.Following.{HasMissed, IsFollowed, is_call, is_over};
-ghost use Rattle.call_traffic.specs.Limits.{minute, second};
-ghost use Rattle.call_traffic.specs.MediaLogs.{Begins, Ends, FirstBecomes, Follows, IsRefused, Looks, Misses};
-ghost use Rattle.call_traffic.specs.Readings.{IsCallRead, all_readings, call_readings};
+ghost use Rattle.call_traffic.specs.Calls.{IsSeen, traffic};
+ghost use Rattle.call_traffic.specs.Following.{is_call, is_over};
+ghost use Rattle.call_traffic.specs.Limits.{second};
+ghost use Rattle.call_traffic.specs.MediaLogs.{Begins, Ends, Follows, FollowsCall, IsRefused, Looks, Misses, MissesCall, ReadsCall, after_finding, found_silent};
+ghost use Rattle.call_traffic.specs.Readings.{IsCallRead, all_readings};
 ghost use Rattle.call_traffic.specs.SilentWays.{TellsAll};
 ghost use Rattle.call_traffic.specs.Totals.{datagrams};
 
@@ -105,8 +105,9 @@ impl<C: PortCounter> MediaLog<C> {
 
     /// Follows what happened to this call, if it is known.
     fn follow_call(&mut self, call: &Call, note: NoteOfCall, now: u64) -> Result<(), AllocError>
-        ensures ok { OnOk result (FirstBecomes (has_number note.number) (IsFollowed call.now note.note now (C.readings self.old.counter) (C.readings self.new.counter)) (C.readings self.new.counter ≡ C.readings self.old.counter) self.old.log.calls.items self.new.log.calls.items) }
-        ensures err { OnErr result (FirstBecomes (has_number note.number) HasMissed ⊥ self.old.log.calls.items self.new.log.calls.items) }
+        ensures ok { OnOk result (FollowsCall call.now note now (C.readings self.old.counter) (C.readings self.new.counter)
+            self.old.log.calls.items self.new.log.calls.items) }
+        ensures err { OnErr result (MissesCall note.number self.old.log.calls.items self.new.log.calls.items) }
         ensures others { self.new ≡ record self.old { counter = self.new.counter; log = record self.old.log { calls = self.new.log.calls } } }
     {
         let alloc = self.log.alloc;
@@ -144,7 +145,8 @@ impl<C: PortCounter> MediaLog<C> {
 
     /// Reads the counts of the ports of the call of this number, if it is known.
     fn read_call(&mut self, number: u64)
-        ensures calls { FirstBecomes (has_number number) (λ call other. IsCallRead call other × (C.readings self.new.counter ≡ C.readings self.old.counter ++ call_readings other)) (C.readings self.new.counter ≡ C.readings self.old.counter) self.old.log.calls.items self.new.log.calls.items }
+        ensures calls { ReadsCall number (C.readings self.old.counter) (C.readings self.new.counter)
+            self.old.log.calls.items self.new.log.calls.items }
         ensures others { self.new ≡ record self.old { counter = self.new.counter; log = record self.old.log { calls = self.new.log.calls } } }
     {
         match place_of(&self.log.calls, number) {
@@ -172,7 +174,8 @@ impl<C: PortCounter> MediaLog<C> {
     pub fn look(&mut self, now: u64) -> bool
         ensures due { IsTrue result ↔ self.old.log.next_look ≤ now }
         ensures early { result ≡ false → self.new ≡ self.old }
-        ensures looks { result ≡ true → Looks now (C.readings self.old.counter) (C.readings self.new.counter) self.old.log.calls.items self.new.log.calls.items }
+        ensures looks { result ≡ true → Looks now (C.readings self.old.counter) (C.readings self.new.counter)
+            self.old.log.calls.items self.new.log.calls.items }
         ensures next { result ≡ true → self.new.log.next_look ≡ min (now + second) (2 ^ 64 - 1) }
         ensures found { self.new.may_find ≡ (self.old.may_find || result) }
         ensures past { self.new.log.past ≡ self.old.log.past }
@@ -190,8 +193,8 @@ impl<C: PortCounter> MediaLog<C> {
     /// minutes, by the looks at it. It is not reported again for a minute, in case it could not be ended. After each
     /// look this is asked until it returns None. Takes no memory.
     pub fn silent_call(&mut self, now: u64, minutes: u32) -> Option<u64>
-        ensures silent { result ≡ (if self.old.may_find then option_map number_of (find (is_silent now (minutes * minute)) self.old.log.calls.items) else None) }
-        ensures told { self.new.log.calls.items ≡ (if self.old.may_find then with_first_told (is_silent now (minutes * minute)) (min (now + minute) (2 ^ 64 - 1)) self.old.log.calls.items else self.old.log.calls.items) }
+        ensures silent { result ≡ found_silent self.old.may_find now minutes self.old.log.calls.items }
+        ensures told { self.new.log.calls.items ≡ after_finding self.old.may_find now minutes self.old.log.calls.items }
         ensures found { self.new.may_find ≡ is_some result }
         ensures others { self.new ≡ record self.old { log = record self.old.log { calls = self.new.log.calls }; may_find = self.new.may_find } }
     {

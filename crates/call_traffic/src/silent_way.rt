@@ -23,7 +23,8 @@ pub struct SilentWay {
 /// Appends an end of the call, if it is silent and that was not reported.
 fn put_of_end(ways: &mut Vec<SilentWay>, call: &mut CallTraffic, end: End, now: u64)
     requires { vec_len ways.old < vec_capacity ways.old }
-    ensures tells { (source : Option DeclaredAddr) × TellsEnd end now call.old call.new source × (ways.new.items ≡ ways.old.items ++ way_from call.old.number end source) }
+    ensures tells { (source : Option DeclaredAddr) × TellsEnd end now call.old call.new source
+        × (ways.new.items ≡ ways.old.items ++ way_from call.old.number end source) }
     ensures len { vec_len ways.new ≤ vec_len ways.old + 1 }
     ensures capacity { vec_capacity ways.new ≡ vec_capacity ways.old }
 {

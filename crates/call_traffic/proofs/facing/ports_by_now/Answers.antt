@@ -1,7 +1,6 @@
-use Rattle.std.proofs.Common.{◌≡◌, ◌+◌, List, [], ◌∷◌, ◌++◌, get_or, take, sym, subst, ◌∙◌, ap}
+use Rattle.std.proofs.Common.{◌≡◌, ◌+◌, [], ◌∷◌, ◌++◌, get_or, take, sym, subst, ◌∙◌, ap}
 use Rattle.std.specs.List.{AllZip, flat_map}
 use Rattle.std.proofs.lemmas.List.{take_more}
-use Rattle.call_traffic.specs.declared.relay_port.RelayPort.{RelayPort}
 use Rattle.call_traffic.specs.Readings.{readings_of}
 use Rattle.call_traffic.specs.RelayPorts.{IsJustGot}
 use Rattle.call_traffic.proofs.EachLaws.{gives_push, zip_push}

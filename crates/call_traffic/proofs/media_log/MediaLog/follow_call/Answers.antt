@@ -1,4 +1,4 @@
-use Rattle.std.proofs.Common.{◌≡◌, position, refl, set, sym, ap, ◌∙◌}
+use Rattle.std.proofs.Common.{position, refl, set, sym, ap, ◌∙◌}
 use Rattle.call_traffic.specs.Calls.{has_number}
 use Rattle.call_traffic.specs.Following.{HasMissed}
 use Rattle.call_traffic.specs.MediaLogs.{FirstBecomes}

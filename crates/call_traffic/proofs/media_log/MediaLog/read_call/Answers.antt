@@ -1,7 +1,5 @@
-use Rattle.std.proofs.Common.{◌≡◌, ◌++◌, position, refl, sym, ap, ◌∙◌}
+use Rattle.std.proofs.Common.{position, refl, sym, ap, ◌∙◌}
 use Rattle.call_traffic.specs.Calls.{has_number}
-use Rattle.call_traffic.specs.Readings.{IsCallRead, call_readings}
-use Rattle.call_traffic.specs.declared.call_traffic.CallTraffic.{CallTraffic}
 use Rattle.call_traffic.proofs.FirstLaws.{becomes, stays}
 use Rattle.call_traffic.proofs.media_log.MediaLog.read_call.Goals as goal
 
