@@ -50,8 +50,9 @@ def keys():
 
 
 def quoted():
-    """The quoted words in the crate that writes the log."""
-    text = "".join(text_of(file) for file in glob.glob("crates/server/src/**/*.rt", recursive=True))
+    """The quoted words in the crates that write the log, and in the one of the command line."""
+    crates = "note_lines", "operator", "log_pipe", "live_users", "server"
+    text = "".join(text_of(file) for name in crates for file in glob.glob(f"crates/{name}/src/**/*.rt", recursive=True))
     return set(re.findall(r'"([\w-]+)"', text))
 
 

@@ -33,14 +33,20 @@ impl WorkerCounts {
     }
 }
 
+/// How many datagrams of a port all workers passed on. The number wraps.
+fn number_of(readers: &mut [PortCounts], port: u16) -> u64 {
+    let mut number: u64 = 0;
+    for reader in readers.iter_mut() {
+        number = number.wrapping_add(reader.number(port));
+    }
+    number
+}
+
 impl PortCounter for WorkerCounts {
     ghost readings = { λ counts. counts.told.entries };
 
     fn number(&mut self, port: u16) -> u64 {
-        let mut number: u64 = 0;
-        for reader in self.readers.iter_mut() {
-            number = number.wrapping_add(reader.number(port));
-        }
+        let number = number_of(&mut self.readers, port);
         self.told.note(port, number);
         number
     }
