@@ -111,7 +111,7 @@ fn text_of(alloc: Global, sent: &[Sent]) -> Result<Vec<u8>, AllocError>
 
 /// Where an event came from; none for a timer, silence or users.
 fn source_of(event: &Event) -> Option<Addr>
-    ensures { result ≡ source_of event.now.what }
+    ensures { result ≡ source_of event.entry.now.what }
 {
     match &event.what {
         What::Datagram { source, .. } => Some(*source),
@@ -121,7 +121,7 @@ fn source_of(event: &Event) -> Option<Addr>
 
 /// The event that the agent took last, as its line needs it. Nobody counts media.
 fn noted<'a>(agent: &'a Agent, event: &Event) -> NotedEvent<'a>
-    ensures { noted result ≡ noted_of agent.now event.now.what }
+    ensures { noted result ≡ noted_of agent.now event.entry.now.what }
 {
     NotedEvent {
         note: agent.note(),
@@ -145,7 +145,7 @@ fn put_told(
     event: &Event,
 ) -> Result<(), AllocError>
     ensures tells { OnOk result (TellsIf notes out.old.items out.new.items) }
-    ensures line { OnOk result (out.new.items ≡ out.old.items ++ note_text notes ledger.old agent.now event.now.what) }
+    ensures line { OnOk result (out.new.items ≡ out.old.items ++ note_text notes ledger.old agent.now event.entry.now.what) }
 {
     if !notes {
         return Ok(());
