@@ -6,6 +6,10 @@ ghost use Rattle.host.specs.Warnings.{is_examples_key, warning_text};
 
 use configuration::Config;
 
+/// The warning.
+const EXAMPLES_KEY: &str =
+    "office: random_key is the example's key of zeros: anyone can guess tags and branches\n";
+
 /// Announces that telephones are served.
 pub trait Announcer {
     /// Says where they are served.
@@ -18,10 +22,6 @@ pub struct Announcement<'a, R> {
     pub rt: &'a R,
     pub config: &'a Config,
 }
-
-/// The warning.
-const EXAMPLES_KEY: &str =
-    "office: random_key is the example's key of zeros: anyone can guess tags and branches\n";
 
 fn is_zero(key: &[u8]) -> bool
     ensures { result ≡ is_examples_key key.now }

@@ -2,6 +2,7 @@
 
 ghost use Rattle.std.specs.Prelude.{◌≡◌, [], false, true, string_bytes, IfOk};
 ghost use Rattle.configuration.specs.declared.level.LogLevel.TheVariants as levels;
+ghost use Rattle.log_pipe.specs.Losses.{PassesOn};
 ghost use Rattle.log_rules.specs.Levels.{is_up_to};
 
 use configuration::LogLevel;
@@ -66,6 +67,8 @@ impl SipWire {
 
     /// Passes a line on, unless nothing is logged.
     fn put(&mut self, line: Result<String, AllocError>)
+        ensures passed { is_up_to levels.Trouble self.old.level ≡ true → IfOk line (λ text. PassesOn (string_bytes text) self.old.lines self.new.lines) }
+        ensures quiet { is_up_to levels.Trouble self.old.level ≡ false → self.new.lines ≡ self.old.lines }
         ensures socket { self.new.socket ≡ self.old.socket }
         ensures rooms { self.new.rooms.entries ≡ self.old.rooms.entries }
     {
