@@ -15,11 +15,17 @@ use Rattle.note_lines.specs.NoteLines.{count_line, silent_line}
 use Rattle.operator.specs.declared.event_log.EventLog.{EventLog}
 
 -- how many events were answered how
+abbrev pub tally_first : Tally → List ℕ
+tally_first t = codes "office: done " ++ (decimal t.done ++ (codes " unread " ++ (decimal t.unread ++ (codes " stray " ++ decimal t.stray))))
+
+abbrev pub tally_second : Tally → List ℕ
+tally_second t = codes " ack " ++ (decimal t.ack ++ (codes " no_branch " ++ (decimal t.no_branch ++ (codes " clock " ++ decimal t.clock))))
+
+abbrev pub tally_last : Tally → List ℕ
+tally_last t = codes " spent " ++ (decimal t.spent ++ (codes " shed " ++ (decimal t.shed ++ (codes " idle " ++ (decimal t.idle ++ codes "\n")))))
+
 abbrev pub tally_text : Tally → List ℕ
-tally_text t =
-    codes "office: done " ++ (decimal t.done ++ (codes " unread " ++ (decimal t.unread ++ (codes " stray " ++ (decimal t.stray ++ (codes " ack " ++ (decimal t.ack
-    ++ (codes " no_branch " ++ (decimal t.no_branch ++ (codes " clock " ++ (decimal t.clock ++ (codes " spent " ++ (decimal t.spent
-    ++ (codes " shed " ++ (decimal t.shed ++ (codes " idle " ++ (decimal t.idle ++ codes "\n")))))))))))))))))
+tally_text t = tally_first t ++ (tally_second t ++ tally_last t)
 
 -- how many lines of strangers were left out in an earlier second, and not told yet
 abbrev pub left_out_at : ℕ → Limit → ℕ

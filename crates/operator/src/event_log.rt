@@ -5,10 +5,10 @@ ghost use Rattle.std.specs.List.{flat_map};
 ghost use Rattle.log_rules.specs.Counts.{between_counts};
 ghost use Rattle.event_rows.specs.Tally.{none_counted};
 ghost use Rattle.note_lines.specs.NoteLines.{noted};
-ghost use Rattle.operator.specs.DueLines.{Tells, TellsCounts, left_out_at, left_out_text, silent_text};
+ghost use Rattle.operator.specs.DueLines.{Tells, TellsCounts, TellsDue, left_out_at, left_out_text, silent_text};
 ghost use Rattle.operator.specs.EventLines.{event_text, is_logged, ledger_then, limit_after};
 
-use crate::tally_line::tally_line;
+use crate::tally::tally_line;
 use agent::Tally;
 use call_traffic::SilentWay;
 use configuration::LogLevel;

@@ -5,8 +5,8 @@
 mod event_log;
 mod office_operator;
 mod snapshot;
-mod tally_line;
+mod tally;
 
 pub use event_log::EventLog;
 pub use office_operator::{Desks, OfficeOperator};
-pub use tally_line::tally_line;
+pub use tally::tally_line;

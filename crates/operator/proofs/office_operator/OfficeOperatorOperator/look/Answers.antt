@@ -5,6 +5,6 @@ use Rattle.live.specs.declared.report.Report.TheVariants.{Looked}
 use Rattle.operator.proofs.office_operator.OfficeOperatorOperator.look.Goals as goal
 
 pub returns-clause-told : goal.returns-clause-told
-returns-clause-told c =
+returns-clause-told g c =
     let lent : Looked c.of.result c.args.now ≡ looked c.args.agent.now c.args.now = ap (λ (agent : Agent). looked agent c.args.now) c.of.ensures in
     search (rules, lent)
