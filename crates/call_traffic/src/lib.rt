@@ -1,6 +1,6 @@
 //! The traffic of calls: how many datagrams came from each end of a call, from which end none come, and in which
-//! calls none do. Moments, in milliseconds, are passed in, and a `PortCounter` gives the counts of the relay's ports: no
-//! clock and no socket is read.
+//! calls none do. Moments, in milliseconds, are passed in, and a `PortCounter` gives the counts of the relay's ports:
+//! no clock and no socket is read.
 #![tactic(auto)]
 
 mod call_traffic;

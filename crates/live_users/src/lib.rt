@@ -1,6 +1,6 @@
-//! The users of a configuration's file while the server runs: a thread looks at the file, and hands over who was added
-//! and who was removed; the signalling takes that, and hands the users in until the agent has them. Moments, in
-//! milliseconds, are handed in.
+//! The users of a configuration's file while the server runs. A thread looks at the file, and hands over its other
+//! users and the line to be logged. The signalling takes these news, and hands the users in until the agent has them.
+//! Moments, in milliseconds, are handed in.
 #![tactic(auto)]
 
 mod ends;

@@ -73,8 +73,8 @@ impl UserDesk {
         line
     }
 
-    /// The users to be handed in at this moment, in milliseconds, if there are any. They may be handed in again a second
-    /// later, also if memory is refused.
+    /// The users to be handed in at this moment, in milliseconds, if there are any. They may be handed in again a
+    /// second later, also if memory is refused.
     pub fn hand_in(&mut self, now: u64) -> Result<Option<Texts<'static>>, AllocError>
         ensures due { IfOk result (λ users. users ≡ due_at now self.old.waiting) }
         ensures handed { IfOk result (λ users. self.new ≡ record self.old { waiting = handed_in now self.old.waiting }) }

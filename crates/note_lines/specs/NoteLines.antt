@@ -60,8 +60,8 @@ registration_line registrar (Some user) now = Some (bound_line user (target_of (
 
 -- ---- an event
 
--- what it was about, the calls and the registrar after it, whose bindings it set, the agent's moment, where it came from,
--- and how much media a call that it ended carried
+-- what it was about, the calls and the registrar after it, whose bindings it set, the agent's moment, where it came
+-- from, and how much media a call that it ended carried
 pub record Noted : Type 0 where
   pub note : Note
   pub calls : List StandingCall
