@@ -1,7 +1,7 @@
 //! How many file descriptors a server needs, and how many the process may have.
 
 ghost use Rattle.std.specs.Prelude.{◌≡◌, ◌<◌, IfSome};
-ghost use Rattle.host.specs.Descriptors.{descriptors_needed, too_few};
+ghost use Rattle.host.specs.Descriptors.{descriptors_needed, sum_needed, too_few};
 
 use configuration::Config;
 use std::fs;
@@ -22,16 +22,18 @@ const FOR_THE_PAGE: u64 = 34;
 /// The socket for SIP, what the signalling waits with, the standard streams, and one to spare.
 const FOR_ALL: u64 = 6;
 
+/// For this many pairs of relay ports and workers, and a page if there is one.
+fn sum_needed(pairs: u16, workers: u8, has_page: bool) -> u64
+    ensures { result ≡ sum_needed pairs workers has_page }
+{
+    let of_page = if has_page { FOR_THE_PAGE } else { 0 };
+    2 * u64::from(pairs) + u64::from(workers) + of_page + FOR_ALL
+}
+
 fn descriptors_needed(config: &Config) -> u64
     ensures { result ≡ descriptors_needed config.now }
 {
-    let of_media = 2 * u64::from(config.relay_pairs) + u64::from(config.workers);
-    let of_page = if config.status.is_some() {
-        FOR_THE_PAGE
-    } else {
-        0
-    };
-    of_media + of_page + FOR_ALL
+    sum_needed(config.relay_pairs, config.workers, config.status.is_some())
 }
 
 fn too_few(limit: u64, needed: u64) -> Option<TooFewDescriptors>

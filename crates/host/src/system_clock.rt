@@ -38,9 +38,10 @@ impl<'a, R: Clock> SystemClock<'a, R> {
 impl<R: Clock> Moments for SystemClock<'_, R> {
     ghost told = { λ clock. clock.told.entries };
 
-    ghost use Rattle.std.specs.Prelude.{◌≡◌, ◌≤◌};
+    ghost use Rattle.std.specs.Prelude.{◌≡◌, ◌≤◌, ◌∷◌, ◌++◌, []};
 
     fn now(&mut self) -> u64
+        ensures told { self.new.told.entries ≡ self.old.told.entries ++ result ∷ [] }
         ensures rises { self.old.last ≤ result }
         ensures last { self.new.last ≡ result }
     {
