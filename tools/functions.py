@@ -37,8 +37,11 @@ def name_of(path, text, found, homes):
 
 
 def functions(path, text, homes):
-    """Each function of a source, with where its text begins and ends."""
+    """Each function of a source, with where its text begins and ends. A trait's method that is only declared, on one
+    line, is none."""
     for found in FN.finditer(text):
+        if text[: text.find("\n", found.end())].endswith(";"):
+            continue
         end = re.compile(rf"(?m)^{found[1]}}}$").search(text, found.end())
         yield name_of(path, text, found, homes), found.start(), end.end() if end else len(text)
 
